@@ -17,11 +17,7 @@ pub enum Tie {
 pub fn magnitude(x: i64) -> u64
     ensures { λ r. ⌜ r ≡ natAbs x ⌝ }
 {
-    if x < 0 {
-        ((!x) as u64) + 1
-    } else {
-        x as u64
-    }
+    if x < 0 { ((!x) as u64) + 1 } else { x as u64 }
 }
 
 // The whole number after q on the side of x, farther from zero. There has to be one: q is not the largest or the least.
@@ -29,11 +25,7 @@ fn farther(q: i64, x: i64) -> i64
     requires { ⌜ natAbs q + 1 < 2 ^ 63 ⌝ }
     ensures { λ r. ⌜ r ≡ q +ℤ withSignOf x 1 ⌝ }
 {
-    if x < 0 {
-        q - 1
-    } else {
-        q + 1
-    }
+    if x < 0 { q - 1 } else { q + 1 }
 }
 
 // x / d rounded to the nearest whole number, by one quotient and one remainder for either sign of x: the remainder's size

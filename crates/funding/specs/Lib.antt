@@ -1,0 +1,4 @@
+pub mod Price
+pub mod Minute
+pub mod Fixing
+pub mod Table
