@@ -1,4 +1,5 @@
 pub mod Price
 pub mod Minute
 pub mod Fixing
+pub mod Terms
 pub mod Table

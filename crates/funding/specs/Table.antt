@@ -6,13 +6,9 @@ use Prim.Native.Nat.{ℕ}
 use lib.IntN.{ℤ, pos, negℤ}
 use lib.ListN.{length}
 use Rattle.integers.specs.declared.Tie.the-variants.{Even}
-use Rattle.funding.specs.declared.Terms.{Terms}
+use Rattle.funding.specs.Terms.{standardTerms}
 use Rattle.funding.specs.Minute.{withinSpread, basisOf, Minute, weightedSum}
 use Rattle.funding.specs.Fixing.{rateOf, clampedTo, amountOf}
-
--- document 01's clamp and spread limit, for every day
-abbrev pub scopeTerms : Terms
-scopeTerms = record { below = 2000000; above = 2000000; spread = 50 }
 
 pub data Row : Type 0 where
   -- a futures price, an index, and their basis
@@ -30,9 +26,9 @@ pub data Row : Type 0 where
 abbrev pub Holds : Row → Type 0
 Holds (basis F u result) = basisOf F u ≡ result
 Holds (rate minutes result) = rateOf (length minutes) (weightedSum (reverse minutes)) ≡ result
-Holds (clamped r result) = clampedTo scopeTerms r ≡ result
+Holds (clamped r result) = clampedTo standardTerms r ≡ result
 Holds (amount r P size result) = amountOf Even r P size ≡ result
-Holds (spread b a result) = withinSpread scopeTerms b a ≡ result
+Holds (spread b a result) = withinSpread standardTerms b a ≡ result
 
 abbrev pub Every : List Row → Type 0
 Every [] = Unit {0}
