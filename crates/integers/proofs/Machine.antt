@@ -13,7 +13,7 @@ use native.Mathlib.Nat.{div-le-self, mod-le, mod-lt, div-add-mod}
 use native.Mathlib.Omega.{arith}
 use lib.Dec.{T}
 use lib.IntN.{ℤ, pos, negsuc, negℤ, natAbs, _+ℤ_, _*ℤ_, negℤ-negℤ, negℤ-+ℤ}
-use lib.Signed.{_≤ℤ_, _<ℤ_, ltZ, quotZ, remZ, nonNeg, yes-nonNeg}
+use lib.Signed.{_≤ℤ_, _<ℤ_, ltZ, quotZ, remZ, mag, nonNeg, yes-nonNeg}
 use mir.Syntax.{Width, w64}
 use mir.Val.{SFits, Fits, ofZ, toZ}
 use mir.Facts.{toZ-pos, toZ-ofZ}
@@ -96,3 +96,7 @@ not-below-zero {z} f h = let e = ap (λ (y : ℤ). ltZ y (pos 0)) (sym (toZ-ofZ 
 -- ---- a cast to an unsigned type of 64 bits
 pub as-unsigned : {z : ℤ} → pos 0 ≤ℤ z → SFits w64 z → T (nonNeg z) × Fits w64 (natAbs z)
 as-unsigned {z} p f = (yes-nonNeg p, record { fits = omega (arith, fits-abs f) })
+
+-- ---- a number whose bits are read back, from what the machine knows of its size
+pub read-back : (z : ℤ) → mag z < 2 ^ 63 → toZ w64 (ofZ w64 z) ≡ z
+read-back z h = toZ-ofZ {w = w64} {z = z} (record { sfits = h })

@@ -24,16 +24,16 @@ abbrev pub raiseCount : List ℕ → ℕ → ℕ → List ℕ
 raiseCount l j n = set l j (countAt l j + n)
 
 -- the column f 0, f 1, .., f (n − 1)
-pub table {ℓ} : {A : Type ℓ} → ℕ → (ℕ → A) → List A
+unfoldable pub table {ℓ} : {A : Type ℓ} → ℕ → (ℕ → A) → List A
 table zero f = []
 table (suc n) f = f 0 ∷ table n (λ j. f (suc j))
 
 -- whether p holds of each account below n
-pub allBelow : ℕ → (ℕ → Bool) → Bool
+unfoldable pub allBelow : ℕ → (ℕ → Bool) → Bool
 allBelow zero p = true
 allBelow (suc n) p = allBelow n p && p n
 
 -- the sum of f over the accounts below n
-pub sumBelow : ℕ → (ℕ → ℕ) → ℕ
+unfoldable pub sumBelow : ℕ → (ℕ → ℕ) → ℕ
 sumBelow zero f = zero
 sumBelow (suc n) f = sumBelow n f + f n

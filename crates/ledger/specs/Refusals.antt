@@ -1,7 +1,9 @@
 -- Refusals 2 to 9, in document 01's order: a number comes if its sentence is met, and only then.
 use mathlib.Core.Bool.{Bool, true, false, not, cond, _&&_, _||_}
-use Prim.Native.Nat.{ℕ, _*_}
+use mathlib.Core.List.{List}
+use Prim.Native.Nat.{ℕ}
 use lib.Dec.{leb, ltb, eqb}
+use lib.IntN.{ℤ}
 use Rattle.funding.specs.Price.{isPrice, isTicked, isGiven}
 use Rattle.ledger.specs.declared.Market.{Market}
 use Rattle.ledger.specs.declared.Trade.{Trade}
@@ -52,9 +54,13 @@ dayForbids f (call.MinuteEnd u) = leb dayLength (f .day .minutes) || isFixed (f 
 dayForbids f (call.Fix set) = ltb (f .day .minutes) dayLength || isFixed (f .day)
 dayForbids f call.Close = not (isFixed (f .day))
 
--- 3: "The day doesn't allow the call: any call on a book with 2,600 closed days; …"
+-- 3: "any call on a book with 2,600 closed days"
+abbrev pub isFull : Figures → Bool
+isFull f = leb mostDays (f .closed)
+
+-- 3: "The day doesn't allow the call"
 abbrev pub notAllowed : Figures → Call → Bool
-notAllowed f c = leb mostDays (f .closed) || dayForbids f c
+notAllowed f c = isFull f || dayForbids f c
 
 -- 4: "A trade, quote or halt comes while halted, or a resume while not"
 abbrev pub haltForbids : Figures → Call → Bool
@@ -86,13 +92,22 @@ outsideField n call.Close = false
 abbrev pub crossed : Call → Bool
 crossed = ofQuote (λ m. not (uncrossed m))
 
+-- the v of both accounts of a trade stays within its limit
+abbrev pub volumeStays : List ℕ → Trade → Bool
+volumeStays volume t = leb (countAt (counted volume t) (t .buyer)) 2000000 && leb (countAt (counted volume t) (t .seller)) 2000000
+
 -- 7: "An account's v would pass 2,000,000"
 abbrev pub volumePasses : Book → Call → Bool
-volumePasses b = ofTrade (λ t. not (leb (countAt (counted (b .volume) t) (t .buyer)) 2000000 && leb (countAt (counted (b .volume) t) (t .seller)) 2000000))
+volumePasses b = ofTrade (λ t. not (volumeStays (b .volume) t))
+
+-- the positions of both accounts stay within their limit
+abbrev pub positionStays : List ℤ → Trade → Bool
+positionStays position t =
+    within (entry (exchanged position t (t .quantity)) (t .buyer)) 1200000 && within (entry (exchanged position t (t .quantity)) (t .seller)) 1200000
 
 -- 8: "A position would pass ±1,200,000"
 abbrev pub positionPasses : Book → Call → Bool
-positionPasses b = ofTrade (λ t. not (within (entry (exchanged (b .position) t (t .quantity)) (t .buyer)) 1200000 && within (entry (exchanged (b .position) t (t .quantity)) (t .seller)) 1200000))
+positionPasses b = ofTrade (λ t. not (positionStays (b .position) t))
 
 -- 9: "At a fix, no rule gives a settlement price"
 abbrev pub unpriced : Figures → Call → Bool
@@ -102,15 +117,18 @@ unpriced f = ofFix (λ set. not (isGiven (priceAt f set)))
 abbrev pub orElse : Bool → ℕ → ℕ → ℕ
 orElse met number rest = cond met number rest
 
--- the number of the refusal of a call on a book of n accounts, 0 where there is none
-unfoldable pub refusal : ℕ → Book → Call → ℕ
-refusal n b c =
-    orElse (not (withinLimits n b)) 2
-    (orElse (notAllowed (b .figures) c) 3
+-- the number of the refusal of a call on a book of n accounts that is within its limits, 0 where there is none
+abbrev pub refusalWithin : ℕ → Book → Call → ℕ
+refusalWithin n b c =
+    orElse (notAllowed (b .figures) c) 3
     (orElse (haltForbids (b .figures) c) 4
     (orElse (outsideField n c) 5
     (orElse (crossed c) 6
     (orElse (volumePasses b c) 7
     (orElse (positionPasses b c) 8
     (orElse (unpriced (b .figures) c) 9
-    0)))))))
+    0))))))
+
+-- and of any book: 2, "The book holds a number beyond its limits", comes first
+unfoldable pub refusal : ℕ → Book → Call → ℕ
+refusal n b c = orElse (not (withinLimits n b)) 2 (refusalWithin n b c)

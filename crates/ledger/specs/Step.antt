@@ -14,13 +14,17 @@ use Rattle.ledger.specs.Refusals.{refusal}
 abbrev pub isAccepted : ℕ → Book → Call → Bool
 isAccepted n b c = eqb (refusal n b c) 0
 
--- the answer to a call. "A refused call returns its number and the same book"
-unfoldable pub step : ℕ → Book → Call → Answer
-step n b c = record {
-  code = refusal n b c;
-  fixing = cond (isAccepted n b c) (fixingOf (b .figures) c) noFixing;
-  book = cond (isAccepted n b c) (effect n b c) b;
+-- the answer with this number. "A refused call returns its number and the same book"
+abbrev pub answer : ℕ → ℕ → Book → Call → Answer
+answer n number b c = record {
+  code = number;
+  fixing = cond (eqb number 0) (fixingOf (b .figures) c) noFixing;
+  book = cond (eqb number 0) (effect n b c) b;
 }
+
+-- the answer to a call
+unfoldable pub step : ℕ → Book → Call → Answer
+step n b c = answer n (refusal n b c) b c
 
 -- the book after a list of calls
 unfoldable pub run : ℕ → Book → List Call → Book

@@ -1,10 +1,26 @@
 // The ledger of one contract, from the first quote of a trade date to the cash posted at its close.
-ghost use mathlib.Core.Path.{_≡_};
+mod limits;
+mod product;
+mod quoting;
+mod trading;
+
 use funding::FinalMinute;
 use funding::Previous;
 
 // Accounts are 0 to 255, one byte.
 pub const ACCOUNTS: usize = 256;
+// The minutes of a day.
+pub const DAY_LENGTH: u32 = 1_320;
+pub const MOST_DAYS: u32 = 2_600;
+pub const MOST_VOLUME: u32 = 2_000_000;
+pub const MOST_POSITION: u64 = 1_200_000;
+pub const MOST_AMOUNT: u64 = 10_000;
+// What an account's cash may rise or fall by in a day.
+pub const MOST_POSTING: u64 = 2_700_000_000_000_000;
+// What the basis of a minute may come to.
+pub const MOST_BASIS: u64 = 9_999_000_000_000;
+pub const MOST_QUANTITY: u32 = 100_000;
+pub const LEAST_BLOCK: u32 = 250;
 
 // A market, or one side of it: 0 where a side doesn't stand.
 pub struct Market {
@@ -89,4 +105,11 @@ pub struct Answer {
     pub code: u8,
     pub fixing: Fixing,
     pub book: Book,
+}
+
+// An answer without the account columns, which are lent to the inner layer and changed in place.
+pub struct Outcome {
+    pub code: u8,
+    pub fixing: Fixing,
+    pub figures: Figures,
 }

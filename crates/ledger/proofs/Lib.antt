@@ -1,0 +1,4 @@
+pub mod Tests
+pub mod Columns
+pub mod Outcomes
+pub mod Raised

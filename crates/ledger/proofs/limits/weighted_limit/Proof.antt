@@ -1,0 +1,25 @@
+-- `ledger::limits::weighted_limit` meets its contract: with at most 1,320 minutes the limit fits 64 bits. Assumes nothing.
+use Prim.Native.Nat.{_+_, _*_, _≤_}
+use native.Mathlib.Nat.{mul-le-mul}
+use native.Mathlib.Omega.{arith}
+use borrow.Author.Needs.{needs}
+use Rattle.ledger.proofs.limits.weighted_limit.Statement.{statement}
+use Rattle.ledger.proofs.limits.weighted_limit.Tie as tie
+
+small : (s : tie.Start) → s .args .k * (s .args .k + 1) ≤ 1320 * 1321
+small s = let h : s .args .k + 1 ≤ 1321 = omega (arith, s .pre) in mul-le-mul (s .pre) h
+
+add-result : tie.Need-add-result
+add-result c = search needs
+
+mul-result : tie.Need-mul-result
+mul-result c = omega (arith, small c)
+
+mul-result-2 : tie.Need-mul-result-2
+mul-result-2 c = omega (arith, small c)
+
+returns : tie.Need-returns
+returns c = search needs
+
+pub weighted-limit-spec : {M : Type 1} → statement M
+weighted-limit-spec = tie.close (tie.spec add-result mul-result mul-result-2 returns)

@@ -1,0 +1,110 @@
+// A trade, on the figures by value and the lent columns.
+ghost use mathlib.Core.Path.{_≡_};
+ghost use mathlib.Core.Bool.{not, cond, _&&_};
+ghost use mathlib.Core.List.{List};
+ghost use Prim.Native.Nat.{_+_, _*_, _≤_};
+ghost use lib.Dec.{leb, eqb};
+ghost use lib.IntN.{ℤ, natAbs};
+ghost use Rattle.ledger.specs.Columns.{accounts, entry, countAt};
+ghost use Rattle.ledger.specs.Limits.{within};
+ghost use Rattle.ledger.specs.Effects.{traded, exchanged, counted};
+ghost use Rattle.ledger.specs.Refusals.{tradeOutside, volumeStays, positionStays, refusalWithin};
+ghost use Rattle.ledger.specs.Step.{answer};
+ghost use Rattle.ledger.specs.Inner.{bookOf, answerOf, Exchangeable, Tradable};
+use crate::ACCOUNTS;
+use crate::Call;
+use crate::DAY_LENGTH;
+use crate::Day;
+use crate::Figures;
+use crate::LEAST_BLOCK;
+use crate::MOST_POSITION;
+use crate::MOST_QUANTITY;
+use crate::MOST_VOLUME;
+use crate::Outcome;
+use crate::Trade;
+use crate::limits::is_within;
+use crate::quoting::or_else;
+
+impl Trade {
+    fn is_outside(self) -> bool
+        ensures { λ r. ⌜ r ≡ tradeOutside self ⌝ }
+    {
+        (2 < self.kind)
+            | (self.quantity == 0)
+            | (MOST_QUANTITY < self.quantity)
+            | ((self.kind == 2) & (self.quantity < LEAST_BLOCK))
+            | !funding::is_price(self.price)
+            | ((self.kind == 0) & !funding::is_ticked(self.price))
+    }
+
+    // What the v of each of its accounts rises by: both sides where they are one account.
+    fn counts(self) -> u64
+        ensures { λ r. ⌜ r ≡ cond (eqb (self .buyer) (self .seller)) (self .quantity + self .quantity) (self .quantity) ⌝ }
+    {
+        let q = self.quantity as u64;
+        if self.buyer == self.seller {
+            q + q
+        } else {
+            q
+        }
+    }
+
+    // What the positions of its accounts move by: a trade with oneself moves none.
+    fn moves(self) -> u32
+        ensures { λ r. ⌜ r ≡ cond (eqb (self .buyer) (self .seller)) 0 (self .quantity) ⌝ }
+    {
+        if self.buyer == self.seller {
+            0
+        } else {
+            self.quantity
+        }
+    }
+}
+
+// Whether the v of both accounts stays within its limit.
+fn volume_stays(volume: &[u32; ACCOUNTS], t: Trade) -> bool
+    ensures { λ r. ⌜ r ≡ volumeStays (now (volume .entry)) t ⌝ }
+{
+    let i = t.buyer as usize;
+    let j = t.seller as usize;
+    let raised = t.counts();
+    let bought = volume[i] as u64 + raised;
+    let sold = volume[j] as u64 + raised;
+    (bought <= MOST_VOLUME as u64) & (sold <= MOST_VOLUME as u64)
+}
+
+// Whether the positions of both accounts stay within their limit. Positions within it are asked, so that the sums fit.
+fn position_stays(position: &[i64; ACCOUNTS], t: Trade) -> bool
+    requires { ⌜ Exchangeable (now position) t 1200000 ⌝ }
+    ensures { λ r. ⌜ r ≡ positionStays (now (position .entry)) t ⌝ }
+{
+    let i = t.buyer as usize;
+    let j = t.seller as usize;
+    let moved = t.moves() as i64;
+    let bought = position[i] + moved;
+    let sold = position[j] - moved;
+    is_within(bought, MOST_POSITION) & is_within(sold, MOST_POSITION)
+}
+
+// Moves an amount from the seller's entry to the buyer's. The seller's is read after the buyer's is written.
+fn exchange(column: &mut [i64; ACCOUNTS], t: Trade, amount: u64)
+    requires { ⌜ Exchangeable (now column) t 100000000000000 × (amount ≤ 5000000000000) ⌝ }
+    ensures { λ _. ⌜ now (column .exit) ≡ exchanged (now (column .entry)) t amount ⌝ }
+{
+    let i = t.buyer as usize;
+    let j = t.seller as usize;
+    let z = amount as i64;
+    column[i] = column[i] + z;
+    column[j] = column[j] - z;
+}
+
+// Raises the v of both accounts.
+fn count(volume: &mut [u32; ACCOUNTS], t: Trade)
+    requires { ⌜ (countAt (now volume) (t .buyer) ≤ 2000000) × (countAt (now volume) (t .seller) ≤ 2000000) × (t .quantity ≤ 100000) ⌝ }
+    ensures { λ _. ⌜ now (volume .exit) ≡ counted (now (volume .entry)) t ⌝ }
+{
+    let i = t.buyer as usize;
+    let j = t.seller as usize;
+    volume[i] = volume[i] + t.quantity;
+    volume[j] = volume[j] + t.quantity;
+}
