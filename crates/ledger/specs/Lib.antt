@@ -5,3 +5,4 @@ pub mod Limits
 pub mod Effects
 pub mod Refusals
 pub mod Step
+pub mod Keeping
