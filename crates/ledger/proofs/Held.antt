@@ -7,20 +7,21 @@ use mathlib.Core.Path.{_≡_, refl, sym}
 use mathlib.Core.Bool.{Bool, true, false, not, _&&_, _||_, true≢false}
 use mathlib.Core.List.{[], _∷_}
 use mathlib.Core.Logic.{_⊎_, inl, inr, ⊎-elim}
-use Prim.Native.Nat.{ℕ, _*_, _<_, _≤_}
+use Prim.Native.Nat.{ℕ, _*_, _%_, _<_, _≤_}
 use native.Mathlib.Omega.{arith}
 use lib.Dec.{leb, eqb}
 use lib.IntN.{natAbs}
 use borrow.Author.Tests.{le-leb, eqb-true}
 use Rattle.funding.specs.declared.FinalMinute.{FinalMinute}
-use Rattle.funding.specs.Price.{isPrice}
+use Rattle.funding.specs.Price.{isPrice, isTicked}
 use Rattle.funding.specs.Minute.{weightedLimit}
+use Rattle.funding.proofs.Tests.{both-true, price-to}
 use Rattle.ledger.specs.declared.Market.{Market}
 use Rattle.ledger.specs.declared.Day.{Day}
 use Rattle.ledger.specs.declared.Figures.{Figures}
 use Rattle.ledger.specs.declared.Book.{Book}
 use Rattle.ledger.specs.Columns.{entry, countAt, allBelow, sumBelow}
-use Rattle.ledger.specs.Day.{dayLength, mostDays}
+use Rattle.ledger.specs.Day.{dayLength, mostDays, twoSided}
 use Rattle.ledger.specs.Opening.{isSize}
 use Rattle.ledger.specs.Limits.{noneOrPrice, noneOrTicked, uncrossed, within, marketHolds, minuteHolds, minutesHold, pricesHold, fixHolds, finalHolds, dayHolds, figuresHold, accountOf, withinLimits}
 use Rattle.ledger.proofs.Tests.{tests, _and_, each}
@@ -146,9 +147,40 @@ holds n b h =
 pub contracts-most : (n : ℕ) (b : Book) → Held n b → b .figures .day .traded .contracts ≤ n * 1000000
 contracts-most n b h = omega (arith, h .final .contracts, sum-most n 2000000 (countAt (b .volume)) (λ j l. h .account j l .volume))
 
+-- the size
 pub size-is : (s : ℕ) → isSize s ≡ true → (s ≡ 1) ⊎ (s ≡ 10)
 size-is s h = by (eqb s 1) refl
   where
     by : (t : Bool) → eqb s 1 ≡ t → (s ≡ 1) ⊎ (s ≡ 10)
     by true e = inl (omega tests)
     by false e = inr (eqb-true s 10 (rw e at h))
+
+pub size-most : (s : ℕ) → isSize s ≡ true → s ≤ 10
+size-most s h = ⊎-elim (λ e. omega arith) (λ e. omega arith) (size-is s h)
+
+-- a price, an index or a side of a market, where there may be none
+pub price-most : (p : ℕ) → noneOrPrice p ≡ true → p ≤ 50000000
+price-most p h = by (eqb p 0) refl
+  where
+    by : (t : Bool) → eqb p 0 ≡ t → p ≤ 50000000
+    by true e = omega tests
+    by false e = price-to p (rw e at h) .1
+
+pub ticked-price : (p : ℕ) → noneOrTicked p ≡ true → noneOrPrice p ≡ true
+ticked-price p h = by (eqb p 0) h
+  where
+    by : (t : Bool) → t || isTicked p ≡ true → t || isPrice p ≡ true
+    by true h = refl
+    by false h = both-true (isPrice p) (eqb (p % 10) 0) h .0
+
+pub record HeldMarket (m : Market) : Type 0 where
+  pub bid : noneOrPrice (m .bid) ≡ true
+  pub offer : noneOrPrice (m .offer) ≡ true
+
+pub held-market : (m : Market) → marketHolds m ≡ true → HeldMarket m
+held-market m h =
+    let t = each (noneOrTicked (m .bid)) (noneOrTicked (m .offer) ∷ uncrossed m ∷ []) h in
+    record { bid = ticked-price (m .bid) (t 0); offer = ticked-price (m .offer) (t 1) }
+
+pub held-minute : (m : Market) → minuteHolds m ≡ true → HeldMarket m
+held-minute m h = held-market m (both-true (marketHolds m) (twoSided m || (eqb (m .bid) 0 && eqb (m .offer) 0)) h .0)

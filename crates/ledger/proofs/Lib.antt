@@ -1,3 +1,5 @@
 pub mod Tests
 pub mod Columns
 pub mod Held
+pub mod Passed
+pub mod KeepingDay
