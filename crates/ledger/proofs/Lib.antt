@@ -3,3 +3,5 @@ pub mod Columns
 pub mod Held
 pub mod Passed
 pub mod KeepingDay
+pub mod KeepingClose
+pub mod KeepingTrade
