@@ -10,7 +10,7 @@ use native.Mathlib.Decide.{ℕ-discrete}
 use native.Mathlib.Omega.{arith}
 use lib.Dec.{leb, ltb, eqb}
 use lib.IntN.{ℤ, pos, negℤ, natAbs, _+ℤ_}
-use lib.ListN.{length, length-set}
+use lib.ListN.{length, getD, set, length-set}
 use lib.Seq.{getD-set-same, getD-set-other}
 use borrow.Author.Tests.{not-false}
 use Rattle.integers.proofs.Order.{abs-neg, abs-add}
@@ -78,3 +78,73 @@ cost-raised l v j i q z hl hv hz h =
           (λ k. omega (arith, ap natAbs (getD-set-same l j (entry l j +ℤ z) (pos 0) hl), getD-set-same v j (countAt v j + q) 0 hv, abs-add (entry l j) z)) h
       | no e ↦ omega (arith, ap natAbs (getD-set-other l j i (entry l j +ℤ z) (pos 0) e), getD-set-other v j i (countAt v j + q) 0 e)
     ]
+
+-- two stores leave what stands at another place
+untouched : {A : Type 0} (l : List A) (j k i : ℕ) (x y d : A) → (i ≡ j → ⊥) → (i ≡ k → ⊥) → getD (set (set l j x) k y) i d ≡ getD l i d
+untouched l j k i x y d hj hk = getD-set-other (set l j x) k i y d hk ∙ getD-set-other l j i x d hj
+
+-- ---- the book
+
+module _ (n : ℕ) (b : Book) (t : Trade) (shape : Shaped n b) (h : Held n b) (p : Passed n b (call.Trade t)) where
+  fields : TradeFields n t
+  fields = trade-fields n t (p .field)
+
+  costs : (j : ℕ) → j < n → natAbs (entry (exchanged (b .cost) t (t .quantity * t .price)) j) ≤ countAt (counted (b .volume) t) j * 50000000
+  costs j l =
+      let q = t .quantity in
+      let x = q * t .price in
+      let cost = raise (b .cost) (t .buyer) (pos x) in
+      let volume = raiseCount (b .volume) (t .buyer) q in
+      cost-raised cost volume (t .seller) j q (negℤ (pos x))
+      (omega (arith, fields .seller, shape .cost, length-set (b .cost) (t .buyer) (entry (b .cost) (t .buyer) +ℤ pos x)))
+      (omega (arith, fields .seller, shape .volume, length-set (b .volume) (t .buyer) (countAt (b .volume) (t .buyer) + q)))
+      (omega (arith, fields .high, abs-neg (pos x)))
+      (cost-raised (b .cost) (b .volume) (t .buyer) j q (pos x) (omega (arith, fields .buyer, shape .cost)) (omega (arith, fields .buyer, shape .volume)) (fields .high) (h .account j l .cost))
+
+  account : (j : ℕ) → j < n → Account (tradedBook b t) j
+  account j l =
+      let a = h .account j l in
+      let position = exchanged (b .position) t (t .quantity) in
+      let volume = counted (b .volume) t in
+      let bp = within (entry position (t .buyer)) 1200000 in
+      let sp = within (entry position (t .seller)) 1200000 in
+      let bv = leb (countAt volume (t .buyer)) 2000000 in
+      let sv = leb (countAt volume (t .seller)) 2000000 in
+      let positions = each bp (sp ∷ []) (not-false (bp && sp) (p .position)) in
+      let volumes = each bv (sv ∷ []) (not-false (bv && sv) (p .volume)) in
+      record {
+        opening = a .opening;
+        position = of-each (λ i. natAbs (entry position i) ≤ 1200000) j (t .buyer) (t .seller) (omega (tests, positions 0)) (omega (tests, positions 1))
+            (λ x y. let e : entry position j ≡ entry (b .position) j = untouched (b .position) (t .buyer) (t .seller) j _ _ (pos 0) x y in omega (arith, a .position, ap natAbs e));
+        volume = of-each (λ i. countAt volume i ≤ 2000000) j (t .buyer) (t .seller) (omega (tests, volumes 0)) (omega (tests, volumes 1))
+            (λ x y. let e : countAt volume j ≡ countAt (b .volume) j = untouched (b .volume) (t .buyer) (t .seller) j _ _ 0 x y in omega (arith, a .volume));
+        cost = costs j l;
+        cash = a .cash;
+      }
+
+  volumes : sumBelow n (countAt (counted (b .volume) t)) ≡ sumBelow n (countAt (b .volume)) + t .quantity + t .quantity
+  volumes =
+      let q = t .quantity in
+      let volume = raiseCount (b .volume) (t .buyer) q in
+      omega (
+        arith,
+        sum-raised n volume (t .seller) q (fields .seller) (omega (arith, shape .volume, length-set (b .volume) (t .buyer) (countAt (b .volume) (t .buyer) + q))),
+        sum-raised n (b .volume) (t .buyer) q (fields .buyer) (omega (arith, shape .volume)),
+      )
+
+  day : HeldDay (traded (b .figures .day) t)
+  day =
+      let d = h .figures .day in
+      record { minutes = d .minutes; valid = d .valid; weighted = d .weighted; market = d .market; minute = d .minute; last = none-or-price (t .price) (fields .price); index = d .index; price = d .price; amount = d .amount; fix = d .fix }
+
+  pub trade-kept : Held n (effect n b (call.Trade t))
+  unfolding effect
+  trade-kept =
+      let f = h .figures in
+      let m = b .figures .day .traded in
+      record {
+        figures = record { size = f .size; closed = f .closed; price = f .price; index = f .index; day = day };
+        account = account;
+        final = by-test (isFinal (b .figures .day .minutes) t) (λ x. HeldFinal x (sumBelow n (countAt (counted (b .volume) t)))) {x = withTrade m t} {y = m}
+            (λ e. omega (arith, volumes, fields .low, fields .high, h .final)) (λ e. omega (arith, volumes, h .final));
+      }
