@@ -1,10 +1,10 @@
 -- What a book within its limits holds, as facts that `omega` reads, and back: a book that holds no more is within its limits.
---     held, holds          Held n b from withinLimits n b, and back
+--     held, holds          what a book within its limits holds, and back; likewise for a day, figures, an account, a final minute
 --     contracts-most       the final minute's contracts, against the number of accounts
---     price-most, price-of, size-most, market-most     numbers and prices from the tests that a record keeps
+--     size-is, size-most, price-most, held-market, held-minute     numbers from the tests that are kept as tests
 -- Assumes nothing.
-use mathlib.Core.Path.{_≡_, refl, sym}
-use mathlib.Core.Bool.{Bool, true, false, not, _&&_, _||_, true≢false}
+use mathlib.Core.Path.{_≡_, refl}
+use mathlib.Core.Bool.{Bool, true, false, _&&_, _||_}
 use mathlib.Core.List.{[], _∷_}
 use mathlib.Core.Logic.{_⊎_, inl, inr, ⊎-elim}
 use Prim.Native.Nat.{ℕ, _*_, _%_, _<_, _≤_}

@@ -7,18 +7,17 @@ use mathlib.Core.List.{[], _∷_}
 use Prim.Native.Nat.{ℕ, _*_, _<_, _≤_}
 use native.Mathlib.Omega.{arith}
 use lib.Dec.{leb}
-use lib.IntN.{ℤ, pos, natAbs, _+ℤ_, _-ℤ_, _*ℤ_}
+use lib.IntN.{ℤ, pos, natAbs, _-ℤ_, _*ℤ_}
 use lib.ListN.{replicate, getD-replicate}
 use Rattle.integers.proofs.Order.{abs-add, abs-sub, abs-mul-le}
 use Rattle.ledger.specs.declared.Figures.{Figures}
 use Rattle.ledger.specs.declared.Book.{Book}
 use Rattle.ledger.specs.declared.Call.the-variants as call
-use Rattle.ledger.specs.Columns.{entry, countAt, sumBelow}
+use Rattle.ledger.specs.Columns.{entry, countAt}
 use Rattle.ledger.specs.Day.{mostDays, noTrades, emptyDay, isFixed}
 use Rattle.ledger.specs.Opening.{isSize, fresh}
 use Rattle.ledger.specs.Limits.{dayHolds}
 use Rattle.ledger.specs.Effects.{posting, cashAfter, closedBook, effect}
-use Rattle.ledger.specs.Refusals.{dayForbids}
 use Rattle.ledger.proofs.Tests.{tests, none}
 use Rattle.ledger.proofs.Columns.{table-at}
 use Rattle.ledger.proofs.Held.{HeldDay, HeldFigures, HeldFinal, Account, Held, held-day, size-most, price-most}

@@ -10,7 +10,7 @@ use lib.Dec.{leb, ltb, eqb}
 use lib.IntN.{natAbs}
 use borrow.Author.Tests.{eq-eqb, not-false}
 use Rattle.funding.specs.declared.Terms.{Terms}
-use Rattle.funding.specs.Price.{isPrice, isGiven}
+use Rattle.funding.specs.Price.{isGiven}
 use Rattle.funding.specs.Minute.{withinSpread, futuresPrice, basisOf, accrued, weightedLimit, Accrues}
 use Rattle.funding.specs.Fixing.{rateOf}
 use Rattle.funding.proofs.Tests.{by-test, price-to, the-price}

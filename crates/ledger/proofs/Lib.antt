@@ -5,3 +5,4 @@ pub mod Passed
 pub mod KeepingDay
 pub mod KeepingClose
 pub mod KeepingTrade
+pub mod Keeping

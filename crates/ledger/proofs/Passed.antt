@@ -1,9 +1,11 @@
 -- What is known of a call that no refusal meets: none of the eight sentences is met.
+--     passed            the eight, by name
+--     within-passes     on a book within its limits the number is not 2
 -- Assumes nothing.
 use mathlib.Core.Path.{_≡_, refl}
 use mathlib.Core.Bool.{Bool, true, false, not}
 use mathlib.Core.List.{List, [], _∷_}
-use Prim.Native.Nat.{ℕ, zero, suc}
+use Prim.Native.Nat.{ℕ, zero, suc, _<_}
 use native.Mathlib.Omega.{arith}
 use lib.ListN.{getD}
 use borrow.Author.Tests.{not-false}
@@ -40,3 +42,15 @@ passed n b c h =
     let limits = withinLimits n b in
     let u = unmet 1 (not limits ∷ notAllowed f c ∷ haltForbids f c ∷ outsideField n c ∷ crossed c ∷ volumePasses b c ∷ positionPasses b c ∷ unpriced f c ∷ []) h in
     record { limits = not-false limits (u 0); day = u 1; halt = u 2; field = u 3; market = u 4; volume = u 5; position = u 6; price = u 7 }
+
+-- a number below the first that could come, and not 0, comes never
+too-low : (low number : ℕ) (l : List Bool) → 0 < low → low < number → firstMet number l ≡ low → ⊥
+too-low low number [] some below h = omega arith
+too-low low number (true ∷ rest) some below h = omega arith
+too-low low number (false ∷ rest) some below h = too-low low (suc number) rest some (omega arith) h
+
+pub within-passes : (n : ℕ) (b : Book) (c : Call) → withinLimits n b ≡ true → refusal n b c ≡ 2 → ⊥
+unfolding refusal
+within-passes n b c w h =
+    let f = b .figures in
+    too-low 2 3 (notAllowed f c ∷ haltForbids f c ∷ outsideField n c ∷ crossed c ∷ volumePasses b c ∷ positionPasses b c ∷ unpriced f c ∷ []) (omega arith) (omega arith) (rw w at h)

@@ -38,3 +38,7 @@ LimitsKept = (n : ℕ) (b : Book) (c : Call) → Shaped n b → refusal n b c �
 -- so is the book after any list of calls on an accepted opening
 abbrev pub RunWithin : Type 0
 RunWithin = (n s : ℕ) (cs : List Call) → opening n s .code ≡ 0 → withinLimits n (run n (opening n s .book) cs) ≡ true
+
+-- and no call on it meets refusal 2
+abbrev pub NeverBeyond : Type 0
+NeverBeyond = (n s : ℕ) (cs : List Call) (c : Call) → opening n s .code ≡ 0 → refusal n (run n (opening n s .book) cs) c ≡ 2 → ⊥
