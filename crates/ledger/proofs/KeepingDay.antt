@@ -1,5 +1,6 @@
 -- A quote, a halt, a resume, a minute end or a fix keeps a book within its limits: it changes the day alone.
---     accrues        what the weighted sum of a valid minute requires
+--     accrues                 what the weighted sum of a valid minute requires
+--     price-at, amount-at     the price and the amount of a fix
 -- Assumes nothing.
 use mathlib.Core.Path.{_≡_, refl, _∙_, ap}
 use mathlib.Core.Bool.{Bool, true, false, not, cond, _&&_, _||_, or-true}
