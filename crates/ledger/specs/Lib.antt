@@ -5,4 +5,5 @@ pub mod Limits
 pub mod Effects
 pub mod Refusals
 pub mod Step
+pub mod Keeping
 pub mod Inner

@@ -1,0 +1,90 @@
+-- An accepted call on a book within its limits hands back a book within its limits: the statements of specs/Keeping.antt.
+--     limits-kept, shape-kept         a call
+--     step-kept                       the answer to a call, accepted or refused
+--     fresh-within, fresh-shaped      a fresh book
+--     run-within, never-beyond        a list of calls on an accepted opening
+-- Assumes nothing.
+use mathlib.Core.Path.{_≡_, refl}
+use mathlib.Core.Bool.{Bool, true, false, cond}
+use mathlib.Core.List.{List, [], _∷_}
+use Prim.Native.Nat.{ℕ}
+use native.Mathlib.Omega.{arith}
+use lib.ListN.{length-set, length-replicate}
+use borrow.Author.Tests.{eqb-true}
+use Rattle.funding.proofs.Tests.{by-test}
+use Rattle.ledger.specs.declared.Call.{Call}
+use Rattle.ledger.specs.declared.Call.the-variants as call
+use Rattle.ledger.specs.declared.Figures.{Figures}
+use Rattle.ledger.specs.declared.Book.{Book}
+use Rattle.ledger.specs.Opening.{isSize, fresh, opening}
+use Rattle.ledger.specs.Limits.{withinLimits}
+use Rattle.ledger.specs.Effects.{figuresAfter, withFigures, effect}
+use Rattle.ledger.specs.Refusals.{refusal}
+use Rattle.ledger.specs.Step.{isAccepted, step, run}
+use Rattle.ledger.specs.Keeping.{Shaped, FreshShaped, ShapeKept, FreshWithin, LimitsKept, RunWithin, NeverBeyond}
+use Rattle.ledger.proofs.Columns.{table-length}
+use Rattle.ledger.proofs.Held.{Held, held, holds}
+use Rattle.ledger.proofs.Passed.{Passed, passed, within-passes}
+use Rattle.ledger.proofs.KeepingDay.{quote-kept, halt-kept, resume-kept, minute-end-kept, fix-kept}
+use Rattle.ledger.proofs.KeepingTrade.{trade-kept}
+use Rattle.ledger.proofs.KeepingClose.{fresh-held, close-kept}
+
+-- ---- the columns' lengths
+
+pub fresh-shaped : FreshShaped
+fresh-shaped n s =
+    record { opening = length-replicate n _; position = length-replicate n _; cost = length-replicate n _; volume = length-replicate n _; cash = length-replicate n _ }
+
+same-columns : (n : ℕ) (b : Book) (f : Figures) → Shaped n b → Shaped n (withFigures b f)
+same-columns n b f s = record { opening = s .opening; position = s .position; cost = s .cost; volume = s .volume; cash = s .cash }
+
+pub shape-kept : ShapeKept
+unfolding effect
+shape-kept n b (call.Quote m) s = same-columns n b (figuresAfter (b .figures) (call.Quote m)) s
+shape-kept n b (call.Trade t) s =
+    record { opening = s .opening; position = simp length-set (s .position); cost = simp length-set (s .cost); volume = simp length-set (s .volume); cash = s .cash }
+shape-kept n b call.Halt s = same-columns n b (figuresAfter (b .figures) call.Halt) s
+shape-kept n b call.Resume s = same-columns n b (figuresAfter (b .figures) call.Resume) s
+shape-kept n b (call.MinuteEnd u) s = same-columns n b (figuresAfter (b .figures) (call.MinuteEnd u)) s
+shape-kept n b (call.Fix set) s = same-columns n b (figuresAfter (b .figures) (call.Fix set)) s
+shape-kept n b call.Close s =
+    record { opening = s .position; position = s .position; cost = length-replicate n _; volume = length-replicate n _; cash = table-length n _ }
+
+-- ---- the limits
+
+kept : (n : ℕ) (b : Book) (c : Call) → Shaped n b → Held n b → Passed n b c → Held n (effect n b c)
+kept n b (call.Quote m) s h p = quote-kept n b h m p
+kept n b (call.Trade t) s h p = trade-kept n b t s h p
+kept n b call.Halt s h p = halt-kept n b h
+kept n b call.Resume s h p = resume-kept n b h
+kept n b (call.MinuteEnd u) s h p = minute-end-kept n b h u p
+kept n b (call.Fix set) s h p = fix-kept n b h set p
+kept n b call.Close s h p = close-kept n b h p
+
+pub limits-kept : LimitsKept
+limits-kept n b c s r = let p = passed n b c r in holds n (effect n b c) (kept n b c s (held n b (p .limits)) p)
+
+pub fresh-within : FreshWithin
+fresh-within n s h = holds n (fresh n s) (fresh-held n s h)
+
+-- ---- a list of calls
+
+pub step-kept : (n : ℕ) (b : Book) (c : Call) → Shaped n b → withinLimits n b ≡ true → Shaped n (step n b c .book) × (withinLimits n (step n b c .book) ≡ true)
+unfolding step
+step-kept n b c s w =
+    by-test (isAccepted n b c) (λ x. Shaped n x × (withinLimits n x ≡ true)) (λ e. (shape-kept n b c s, limits-kept n b c s (eqb-true (refusal n b c) 0 e))) (λ e. (s, w))
+
+pub run-kept : (n : ℕ) (b : Book) (cs : List Call) → Shaped n b → withinLimits n b ≡ true → withinLimits n (run n b cs) ≡ true
+unfolding run
+run-kept n b [] s w = w
+run-kept n b (c ∷ cs) s w = let k = step-kept n b c s w in run-kept n (step n b c .book) cs (k .0) (k .1)
+
+no-refusal : (t : Bool) → _≡_ {A = ℕ} (cond t 0 5) 0 → t ≡ true
+no-refusal true h = refl
+no-refusal false h = absurd (omega arith)
+
+pub run-within : RunWithin
+run-within n s cs h = rw (no-refusal (isSize s) h) (run-kept n (fresh n s) cs (fresh-shaped n s) (fresh-within n s (no-refusal (isSize s) h)))
+
+pub never-beyond : NeverBeyond
+never-beyond n s cs c h = within-passes n (run n (opening n s .book) cs) c (run-within n s cs h)

@@ -1,0 +1,44 @@
+-- An accepted call on a book within its limits hands back a book within its limits, so that refusal 2 never comes on a book that the library handed out.
+-- Proved in proofs/Keeping.antt.
+use mathlib.Core.Path.{_≡_}
+use mathlib.Core.Bool.{true}
+use mathlib.Core.List.{List}
+use Prim.Native.Nat.{ℕ}
+use lib.ListN.{length}
+use Rattle.ledger.specs.declared.Call.{Call}
+use Rattle.ledger.specs.declared.Book.{Book}
+use Rattle.ledger.specs.Opening.{isSize, fresh, opening}
+use Rattle.ledger.specs.Limits.{withinLimits}
+use Rattle.ledger.specs.Effects.{effect}
+use Rattle.ledger.specs.Refusals.{refusal}
+use Rattle.ledger.specs.Step.{run}
+
+-- each column has an entry for each of n accounts
+pub record Shaped (n : ℕ) (b : Book) : Type 0 where
+  pub opening : length (b .opening) ≡ n
+  pub position : length (b .position) ≡ n
+  pub cost : length (b .cost) ≡ n
+  pub volume : length (b .volume) ≡ n
+  pub cash : length (b .cash) ≡ n
+
+-- a fresh book is so, and a call, whatever it is, leaves it so
+abbrev pub FreshShaped : Type 0
+FreshShaped = (n s : ℕ) → Shaped n (fresh n s)
+
+abbrev pub ShapeKept : Type 0
+ShapeKept = (n : ℕ) (b : Book) (c : Call) → Shaped n b → Shaped n (effect n b c)
+
+-- a fresh book is within its limits, and an accepted call leaves it within them
+abbrev pub FreshWithin : Type 0
+FreshWithin = (n s : ℕ) → isSize s ≡ true → withinLimits n (fresh n s) ≡ true
+
+abbrev pub LimitsKept : Type 0
+LimitsKept = (n : ℕ) (b : Book) (c : Call) → Shaped n b → refusal n b c ≡ 0 → withinLimits n (effect n b c) ≡ true
+
+-- so is the book after any list of calls on an accepted opening
+abbrev pub RunWithin : Type 0
+RunWithin = (n s : ℕ) (cs : List Call) → opening n s .code ≡ 0 → withinLimits n (run n (opening n s .book) cs) ≡ true
+
+-- and no call on it meets refusal 2
+abbrev pub NeverBeyond : Type 0
+NeverBeyond = (n s : ℕ) (cs : List Call) (c : Call) → opening n s .code ≡ 0 → refusal n (run n (opening n s .book) cs) c ≡ 2 → ⊥
