@@ -1,45 +1,18 @@
--- A column whose entries a trade raises.
---     raised-size, raised-count       an entry after a rise, at most
---     buyer-entry, seller-entry, buyer-count, seller-count     the entries of a trade's two accounts after it
+-- The entries of a trade's two accounts after it: buyer-entry, seller-entry, buyer-count, seller-count.
 -- Assumes nothing.
 use mathlib.Core.Path.{_≡_, refl, sym, _∙_, ap, subst}
 use mathlib.Core.Bool.{Bool, true, false, cond}
-use mathlib.Core.List.{List, [], _∷_}
-use mathlib.Core.Logic.{_⊎_, inl, inr, ⊎-elim}
-use Prim.Native.Nat.{ℕ, zero, suc, _+_, _<_, _≤_}
+use mathlib.Core.List.{List}
+use Prim.Native.Nat.{ℕ, _+_, _<_}
 use native.Mathlib.Omega.{arith}
 use lib.Dec.{eqb}
-use lib.IntN.{ℤ, pos, negℤ, natAbs, _+ℤ_, _-ℤ_, +ℤ-assoc, +ℤ-invr, +ℤ-idr}
-use lib.ListN.{length, getD, set, length-set}
+use lib.IntN.{ℤ, pos, negℤ, _+ℤ_, _-ℤ_, +ℤ-assoc, +ℤ-invr, +ℤ-idr}
+use lib.ListN.{length, length-set}
 use lib.Seq.{getD-set-same, getD-set-other}
 use borrow.Author.Tests.{eqb-true, eqb-false}
-use Rattle.integers.proofs.Order.{abs-add}
 use Rattle.ledger.specs.Columns.{entry, countAt, raise, raiseCount}
 
--- after a store, an entry is what was stored or what it was
-stored : {A : Type 0} (l : List A) (j i : ℕ) (x d : A) → ((getD (set l j x) i d ≡ x) × (i ≡ j)) ⊎ (getD (set l j x) i d ≡ getD l i d)
-stored [] j i x d = inr refl
-stored (a ∷ l) zero zero x d = inl (refl, refl)
-stored (a ∷ l) zero (suc i) x d = inr refl
-stored (a ∷ l) (suc j) zero x d = inr refl
-stored (a ∷ l) (suc j) (suc i) x d = ⊎-elim (λ w. inl (w .0, ap suc (w .1))) (λ w. inr w) (stored l j i x d)
-
-pub raised-size : (l : List ℤ) (j i : ℕ) (z : ℤ) → natAbs (entry (raise l j z) i) ≤ natAbs (entry l i) + natAbs z
-raised-size l j i z =
-    ⊎-elim
-    (λ w. let e : natAbs (entry (raise l j z) i) ≡ natAbs (entry l i +ℤ z) = ap natAbs (w .0 ∙ ap (λ (k : ℕ). entry l k +ℤ z) (sym (w .1))) in omega (arith, abs-add (entry l i) z))
-    (λ w. let e : natAbs (entry (raise l j z) i) ≡ natAbs (entry l i) = ap natAbs w in omega arith)
-    (stored l j i (entry l j +ℤ z) (pos 0))
-
-pub raised-count : (l : List ℕ) (j i n : ℕ) → countAt (raiseCount l j n) i ≤ countAt l i + n
-raised-count l j i n =
-    ⊎-elim
-    (λ w. let e : countAt (raiseCount l j n) i ≡ countAt l i + n = w .0 ∙ ap (λ (k : ℕ). countAt l k + n) (sym (w .1)) in omega arith)
-    (λ w. let e : countAt (raiseCount l j n) i ≡ countAt l i = w in omega arith)
-    (stored l j i (countAt l j + n) 0)
-
--- ---- the two accounts of a trade, buyer b and seller s, which may be one
-
+-- whether the buyer b and the seller s are one account
 by-accounts : (b s : ℕ) (P : Bool → Type 0) → (b ≡ s → P true) → ((b ≡ s → ⊥) → P false) → P (eqb b s)
 by-accounts b s P f g = go (eqb b s) refl
   where

@@ -54,13 +54,17 @@ traded d t = record {
   amount = d .amount;
 }
 
+-- S after a minute with this index
+abbrev pub weightedAfter : Day → Bool → ℕ → ℤ
+weightedAfter d valid u = cond valid (accrued (d .weighted) (d .valid) (basisOf (minuteOf (d .minute) (d .last) u .F) u)) (d .weighted)
+
 -- "k rises by 1; S rises by k × basis. An invalid minute changes neither. Ended minutes rise by 1 in both cases. The next minute's market is the
 -- standing market if two-sided, else none. The u of minute 1,320 is the day's index"
 abbrev pub minuteEnded : Day → Bool → ℕ → Day
 minuteEnded d valid u = record {
   minutes = d .minutes + 1;
   valid = cond valid (d .valid + 1) (d .valid);
-  weighted = cond valid (accrued (d .weighted) (d .valid) (basisOf (minuteOf (d .minute) (d .last) u .F) u)) (d .weighted);
+  weighted = weightedAfter d valid u;
   market = d .market;
   minute = asMinute (d .market) noMarket;
   last = d .last;

@@ -1,6 +1,8 @@
 // The ledger of one contract, from the first quote of a trade date to the cash posted at its close.
+mod fix;
 mod limits;
-mod product;
+mod minute;
+pub mod product;
 mod quoting;
 mod trading;
 

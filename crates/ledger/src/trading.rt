@@ -1,18 +1,14 @@
 // A trade, on the figures by value and the lent columns.
 ghost use mathlib.Core.Path.{_≡_};
-ghost use mathlib.Core.Bool.{not, cond, _&&_};
-ghost use mathlib.Core.List.{List};
-ghost use Prim.Native.Nat.{_+_, _*_, _≤_};
-ghost use lib.Dec.{leb, eqb};
-ghost use lib.IntN.{ℤ, natAbs};
-ghost use Rattle.ledger.specs.Columns.{accounts, entry, countAt};
-ghost use Rattle.ledger.specs.Limits.{within};
+ghost use mathlib.Core.Bool.{cond};
+ghost use Prim.Native.Nat.{_+_, _≤_};
+ghost use lib.Dec.{eqb};
+ghost use Rattle.ledger.specs.Columns.{accounts};
+ghost use Rattle.ledger.specs.Day.{inLastMinute};
 ghost use Rattle.ledger.specs.Effects.{traded, exchanged, counted};
-ghost use Rattle.ledger.specs.Refusals.{tradeOutside, volumeStays, positionStays, refusalWithin};
-ghost use Rattle.ledger.specs.Step.{answer};
-ghost use Rattle.ledger.specs.Inner.{bookOf, answerOf, Exchangeable, Tradable};
+ghost use Rattle.ledger.specs.Refusals.{tradeOutside, volumeStays, positionStays};
+ghost use Rattle.ledger.specs.Inner.{tradeRefusal, TradeAnswered, Exchangeable, Countable, Printable, Tradable};
 use crate::ACCOUNTS;
-use crate::Call;
 use crate::DAY_LENGTH;
 use crate::Day;
 use crate::Figures;
@@ -24,6 +20,7 @@ use crate::Outcome;
 use crate::Trade;
 use crate::limits::is_within;
 use crate::quoting::or_else;
+use funding::FinalMinute;
 
 impl Trade {
     fn is_outside(self) -> bool
@@ -63,6 +60,7 @@ impl Trade {
 
 // Whether the v of both accounts stays within its limit.
 fn volume_stays(volume: &[u32; ACCOUNTS], t: Trade) -> bool
+    requires { ⌜ Countable (now volume) t ⌝ }
     ensures { λ r. ⌜ r ≡ volumeStays (now (volume .entry)) t ⌝ }
 {
     let i = t.buyer as usize;
@@ -100,11 +98,77 @@ fn exchange(column: &mut [i64; ACCOUNTS], t: Trade, amount: u64)
 
 // Raises the v of both accounts.
 fn count(volume: &mut [u32; ACCOUNTS], t: Trade)
-    requires { ⌜ (countAt (now volume) (t .buyer) ≤ 2000000) × (countAt (now volume) (t .seller) ≤ 2000000) × (t .quantity ≤ 100000) ⌝ }
+    requires { ⌜ Countable (now volume) t × (t .quantity ≤ 100000) ⌝ }
     ensures { λ _. ⌜ now (volume .exit) ≡ counted (now (volume .entry)) t ⌝ }
 {
     let i = t.buyer as usize;
     let j = t.seller as usize;
     volume[i] = volume[i] + t.quantity;
     volume[j] = volume[j] + t.quantity;
+}
+
+impl Day {
+    pub fn is_in_last_minute(self) -> bool
+        ensures { λ r. ⌜ r ≡ inLastMinute (self .minutes) ⌝ }
+    {
+        self.minutes as u64 + 1 == DAY_LENGTH as u64
+    }
+
+    // The day after a trade. Room for it in n and in the gross is asked.
+    fn traded(self, t: Trade) -> Day
+        requires { ⌜ Printable self t ⌝ }
+        ensures { λ r. ⌜ r ≡ traded self t ⌝ }
+    {
+        let mut day = self;
+        day.last = t.price;
+        if self.is_in_last_minute() & (t.kind == 0) {
+            let traded = FinalMinute {
+                contracts: self.traded.contracts + t.quantity,
+                gross: self.traded.gross + t.quantity as u64 * t.price as u64,
+            };
+            day.traded = traded;
+        }
+        day
+    }
+}
+
+// The number of a trade's refusal, 0 for none.
+fn trade_code(
+    figures: Figures,
+    position: &[i64; ACCOUNTS],
+    volume: &[u32; ACCOUNTS],
+    t: Trade,
+) -> u8
+    requires { ⌜ Exchangeable (now position) t 1200000 × Countable (now volume) t ⌝ }
+    ensures { λ r. ⌜ r ≡ tradeRefusal accounts figures (now (position .entry)) (now (volume .entry)) t ⌝ }
+{
+    let volume_passes = !volume_stays(volume, t);
+    let position_passes = !position_stays(position, t);
+    let own = or_else(volume_passes, 7, or_else(position_passes, 8, 0));
+    let fields = or_else(t.is_outside(), 5, own);
+    or_else(figures.is_full(), 3, or_else(figures.halted, 4, fields))
+}
+
+// A trade on a book whose other columns are any.
+pub fn trade_on(
+    figures: Figures,
+    position: &mut [i64; ACCOUNTS],
+    cost: &mut [i64; ACCOUNTS],
+    volume: &mut [u32; ACCOUNTS],
+    t: Trade,
+) -> Outcome
+    requires { ⌜ Tradable figures (now position) (now cost) (now volume) t ⌝ }
+    ensures { λ r. ⌜ TradeAnswered accounts figures (now (position .entry)) (now (cost .entry)) (now (volume .entry)) t r (now (position .exit)) (now (cost .exit)) (now (volume .exit)) ⌝ }
+{
+    let code = trade_code(figures, position, volume, t);
+    if code != 0 {
+        return figures.refused(code);
+    }
+    let quantity = t.quantity as u64;
+    exchange(position, t, quantity);
+    exchange(cost, t, quantity * t.price as u64);
+    count(volume, t);
+    let mut after = figures;
+    after.day = figures.day.traded(t);
+    after.accepted()
 }

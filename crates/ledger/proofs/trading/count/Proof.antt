@@ -1,7 +1,7 @@
 -- `ledger::trading::count` meets its contract: a count after the first rise has room for the second. Assumes nothing.
 use native.Mathlib.Omega.{arith}
 use borrow.Author.Needs.{needs}
-use Rattle.ledger.proofs.Raised.{raised-count}
+use Rattle.ledger.proofs.Columns.{count-raised}
 use Rattle.ledger.proofs.trading.count.Statement.{statement}
 use Rattle.ledger.proofs.trading.count.Tie as tie
 
@@ -36,7 +36,7 @@ add-volume-2 : tie.Need-add-volume-2
 add-volume-2 c =
     let s = c .before .before .before .before .before .before in
     let t = s .args .t in
-    omega (arith, s .pre, raised-count (s .args .volume .now) (t .buyer) (t .seller) (t .quantity))
+    omega (arith, s .pre .0 .seller, s .pre .1, count-raised (s .args .volume .now) (t .buyer) (t .seller) (t .quantity))
 
 mul-volume-4 : tie.Need-mul-volume-4
 mul-volume-4 c = search needs

@@ -1,64 +1,73 @@
+-- `ledger::trading::exchange` meets its contract: neither entry leaves 64 bits, the seller's being read after the buyer's is written. Assumes nothing.
+use mathlib.Core.List.{_∷_, []}
+use Prim.Native.Nat.{_≤_}
+use native.Mathlib.Omega.{arith}
+use lib.IntN.{pos, natAbs}
 use borrow.Author.Needs.{needs}
+use Rattle.integers.proofs.Overflow.{Op, arg, add, sub, val, nat, Within, _▹_, done, safe, runs}
+use Rattle.ledger.specs.Columns.{entry, raise}
+use Rattle.ledger.proofs.Columns.{entry-raised}
 use Rattle.ledger.proofs.trading.exchange.Statement.{statement}
 use Rattle.ledger.proofs.trading.exchange.Tie as tie
-use Rattle.ledger.proofs.trading.exchange.Reads as reads
-use Rattle.ledger.proofs.trading.exchange.Lts as lts
 
--- src/trading.rt:94:13
+buying : (s : tie.Start) → Within (val (entry (s .args .column .now) (s .args .t .buyer)) ∷ nat (s .args .amount) ∷ []) (100000000000000 ∷ 5000000000000 ∷ [])
+buying s = s .pre .0 .buyer ▹ s .pre .1 ▹ done
+
+selling :
+    (s : tie.Start) → Within (val (entry (raise (s .args .column .now) (s .args .t .buyer) (pos (s .args .amount))) (s .args .t .seller)) ∷ nat (s .args .amount) ∷ []) (105000000000000 ∷ 5000000000000 ∷ [])
+selling s =
+    let t = s .args .t in
+    let l = s .args .column .now in
+    let h : natAbs (entry (raise l (t .buyer) (pos (s .args .amount))) (t .seller)) ≤ 105000000000000 = omega (arith, s .pre .0 .seller, s .pre .1, entry-raised l (t .buyer) (t .seller) (pos (s .args .amount))) in
+    h ▹ s .pre .1 ▹ done
+
+abbrev bought : Op
+bought = add (arg 0) (arg 1)
+
+abbrev sold : Op
+sold = sub (arg 0) (arg 1)
+
 cast-i : tie.Need-cast-i
 cast-i c = search needs
 
--- src/trading.rt:95:13
 cast-j : tie.Need-cast-j
 cast-j c = search needs
 
--- src/trading.rt:96:13
 cast-z : tie.Need-cast-z
 cast-z c = search needs
 
--- src/trading.rt:97:17
 mul-column : tie.Need-mul-column
 mul-column c = search needs
 
--- src/trading.rt:97:17
 element-copy-out-column : tie.Need-element-copy-out-column
 element-copy-out-column c = search needs
 
--- src/trading.rt:97:17
 add-column : tie.Need-add-column
-add-column c = ?
+add-column c = safe (buying (c .before .before .before)) bought tt
 
--- src/trading.rt:97:5
 mul-column-2 : tie.Need-mul-column-2
 mul-column-2 c = search needs
 
--- src/trading.rt:97:5
 element-set-from-column : tie.Need-element-set-from-column
 element-set-from-column c = search needs
 
--- src/trading.rt:98:17
 mul-column-3 : tie.Need-mul-column-3
 mul-column-3 c = search needs
 
--- src/trading.rt:98:17
 element-copy-out-column-2 : tie.Need-element-copy-out-column-2
 element-copy-out-column-2 c = search needs
 
--- src/trading.rt:98:17
 sub-column : tie.Need-sub-column
-sub-column c = ?
+sub-column c = let s = c .before .before .before .before in rw (runs (buying s) bought tt) (safe (selling s) sold tt)
 
--- src/trading.rt:98:5
 mul-t12 : tie.Need-mul-t12
 mul-t12 c = search needs
 
--- src/trading.rt:98:5
 element-set-from-column-2 : tie.Need-element-set-from-column-2
 element-set-from-column-2 c = search needs
 
--- src/trading.rt:90:1
 returns : tie.Need-returns
-returns c = ?
+returns c = let s = c .before .before .before .before in rw (runs (buying s) bought tt, runs (selling s) sold tt)
 
 pub exchange-spec : {M : Type 1} → statement M
 exchange-spec =

@@ -1,0 +1,90 @@
+// The end of a minute.
+ghost use mathlib.Core.Path.{_≡_};
+ghost use mathlib.Core.Bool.{cond};
+ghost use Prim.Native.Nat.{_+_, _≤_};
+ghost use Rattle.funding.specs.Minute.{basisOf, accrued};
+ghost use Rattle.ledger.specs.Columns.{accounts};
+ghost use Rattle.ledger.specs.Day.{termsOn, inLastMinute, isValid, minuteOf};
+ghost use Rattle.ledger.specs.Effects.{minuteEnded, weightedAfter};
+ghost use Rattle.ledger.specs.Inner.{outcome, figuresRefusal, Endable};
+ghost use Rattle.ledger.specs.Limits.{figuresHold};
+ghost use mathlib.Core.Bool.{true};
+use crate::Call;
+use crate::DAY_LENGTH;
+use crate::Day;
+use crate::Figures;
+use crate::Market;
+use crate::Outcome;
+use crate::limits::none_or_price;
+use crate::product::Product;
+use crate::quoting::or_else;
+
+impl Day {
+    // The weighted sum after a minute, valid or not.
+    fn weighted_after(self, valid: bool, index: u32) -> i64
+        requires { ⌜ Endable self valid index ⌝ }
+        ensures { λ r. ⌜ r ≡ weightedAfter self valid index ⌝ }
+    {
+        if !valid {
+            return self.weighted;
+        }
+        let futures = funding::futures_price(self.minute.bid, self.minute.offer, self.last);
+        let basis = funding::basis(futures, index);
+        funding::accrue(self.weighted, self.valid, basis)
+    }
+
+    fn valid_after(self, valid: bool) -> u32
+        requires { ⌜ self .valid ≤ 1320 ⌝ }
+        ensures { λ r. ⌜ r ≡ cond valid (self .valid + 1) (self .valid) ⌝ }
+    {
+        if valid { self.valid + 1 } else { self.valid }
+    }
+
+    fn index_after(self, index: u32) -> u32
+        ensures { λ r. ⌜ r ≡ cond (inLastMinute (self .minutes)) index (self .index) ⌝ }
+    {
+        if self.is_in_last_minute() { index } else { self.index }
+    }
+
+    fn minute_ended(self, valid: bool, index: u32) -> Day
+        requires { ⌜ Endable self valid index ⌝ }
+        ensures { λ r. ⌜ r ≡ minuteEnded self valid index ⌝ }
+    {
+        let mut day = self;
+        day.minutes = self.minutes + 1;
+        day.valid = self.valid_after(valid);
+        day.weighted = self.weighted_after(valid, index);
+        day.minute = self.market.as_minute(Market::none());
+        day.index = self.index_after(index);
+        day
+    }
+}
+
+impl Figures {
+    // Whether the minute that ends with this index is valid.
+    fn is_valid(self, index: u32) -> bool
+        ensures { λ r. ⌜ r ≡ isValid (termsOn (self .closed)) (self .halted) (self .day .minute) index ⌝ }
+    {
+        let minute = self.day.minute;
+        !self.halted
+            & minute.is_two_sided()
+            & (index != 0)
+            & funding::within_spread(minute.bid, minute.offer, Product::terms())
+    }
+
+    // Figures within their limits are asked, so that the weighted sum fits.
+    pub fn minute_end(self, index: u32) -> Outcome
+        requires { ⌜ figuresHold self ≡ true ⌝ }
+        ensures { λ r. ⌜ r ≡ outcome self (figuresRefusal accounts self (Call.MinuteEnd index)) (Call.MinuteEnd index) ⌝ }
+    {
+        let day = self.day;
+        let over = self.is_full() | ((DAY_LENGTH <= day.minutes) | (day.price != 0));
+        let code = or_else(over, 3, or_else(!none_or_price(index), 5, 0));
+        if code != 0 {
+            return self.refused(code);
+        }
+        let mut after = self;
+        after.day = day.minute_ended(self.is_valid(index), index);
+        after.accepted()
+    }
+}
