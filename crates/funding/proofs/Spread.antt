@@ -9,7 +9,7 @@ use Rattle.funding.specs.declared.Terms.{Terms}
 use Rattle.funding.specs.Minute.{withinSpread, SpreadTest}
 
 -- two tests that hold together
-leb-same : (a b c d : ℕ) → (a ≤ b → c ≤ d) → (c ≤ d → a ≤ b) → leb a b ≡ leb c d
+pub leb-same : (a b c d : ℕ) → (a ≤ b → c ≤ d) → (c ≤ d → a ≤ b) → leb a b ≡ leb c d
 leb-same a b c d f g = go (leb a b) (leb c d) refl refl
   where
     go : (s t : Bool) → leb a b ≡ s → leb c d ≡ t → s ≡ t

@@ -114,33 +114,29 @@ pub fn clamp(rate: i64, terms: Terms) -> i64
     rate
 }
 
-// The amount of one contract. The product has to fit 64 bits: at the largest clamp of 10,000,000 nano, the largest price and
-// size 10 it is below 10^16.
+// The amount of one contract. The product has to fit 64 bits, and at the rate 0 price × size too: at the largest clamp of
+// 10,000,000 nano, the largest price and size 10 it is below 10^16.
 pub fn amount(rate: i64, price: u32, size: u32, tie: Tie) -> i64
-    requires { ⌜ natAbs rate * (price * size) < 2 ^ 63 ⌝ }
+    requires { ⌜ (natAbs rate * (price * size) < 2 ^ 63) × (price * size < 2 ^ 63) ⌝ }
     ensures { λ r. ⌜ r ≡ amountOf tie rate price size ⌝ }
 {
     let scale = (price as u64 * size as u64) as i64;
-    integers::rounded((0 - rate) * scale, AMOUNT_SCALE, tie)
+    integers::rounded(0 - rate * scale, AMOUNT_SCALE, tie)
 }
 
 // Day's index + previous price − previous index where it is a price, or 0.
 fn index_price(index: u32, previous: Previous) -> u32
     ensures { λ r. ⌜ r ≡ indexPrice index previous ⌝ }
 {
-    if (index == 0) | (previous.price == 0) | (previous.index == 0) {
-        return 0;
-    }
+    let given = (index != 0) & (previous.price != 0) & (previous.index != 0);
     let sum = index as u64 + previous.price as u64;
     let subtracted = previous.index as u64;
-    if sum < subtracted + LEAST_PRICE as u64 {
-        return 0;
+    let is_price = (LEAST_PRICE as u64 + subtracted <= sum) & (sum <= LARGEST_PRICE as u64 + subtracted);
+    if given & is_price {
+        (sum - subtracted) as u32
+    } else {
+        0
     }
-    let price = sum - subtracted;
-    if (LARGEST_PRICE as u64) < price {
-        return 0;
-    }
-    price as u32
 }
 
 // The settlement price by its three rules in order, or 0 where none gives one. What contracts of the final minute were

@@ -5,6 +5,7 @@
 --     complement             `!x` of a negative number is its size less one
 --     below-zero             what a test `x < 0` shows
 --     as-unsigned            what a cast to an unsigned type asks
+--     positive               a number above 0 that was cast to a signed type is above 0
 -- Assumes nothing.
 use mathlib.Core.Path.{_≡_, refl, sym, _∙_, ap}
 use mathlib.Core.Bool.{true, false}
@@ -18,7 +19,7 @@ use mir.Syntax.{Width, w64}
 use mir.Val.{SFits, Fits, ofZ, toZ}
 use mir.Facts.{toZ-pos, toZ-ofZ}
 use Rattle.integers.proofs.Laws.{neg-*ℤ}
-use Rattle.integers.proofs.Order.{ints, abs-neg, lt-to, fits-abs}
+use Rattle.integers.proofs.Order.{ints, abs-neg, lt-to, lt-by, fits-abs}
 
 -- ---- the divisor's bits are not 0
 pub bits-pos : (w : Width) {z : ℤ} → pos 0 <ℤ z → 0 < ofZ w z
@@ -96,3 +97,7 @@ not-below-zero {z} f h = let e = ap (λ (y : ℤ). ltZ y (pos 0)) (sym (toZ-ofZ 
 -- ---- a cast to an unsigned type of 64 bits
 pub as-unsigned : {z : ℤ} → pos 0 ≤ℤ z → SFits w64 z → T (nonNeg z) × Fits w64 (natAbs z)
 as-unsigned {z} p f = (yes-nonNeg p, record { fits = omega (arith, fits-abs f) })
+
+-- ---- a cast to a signed type
+pub positive : {n : ℕ} → 0 < n → n < 2 ^ 63 → pos 0 <ℤ toZ w64 n
+positive {n} h b = rw (toZ-pos w64 b) (lt-by (omega arith))

@@ -1,12 +1,13 @@
 -- Rounding to the nearest whole number, from the machine's quotient and remainder.
 --     characterised     `rounded` is nearest, a tie going where its rule says, and nothing else is
+--     nearest-le, nearest-ge, rounded-le     a whole number that bounds x / d bounds what it is rounded to
 --     below, above, even, away     the quotient, or its neighbour, is `rounded` by how the remainder stands to half the divisor
 -- Assumes nothing.
 use mathlib.Core.Path.{_≡_, refl, sym, _∙_, ap}
 use mathlib.Core.Bool.{Bool, true, false, not, cond}
 use mathlib.Core.Logic.{_⊎_, inl, inr, ⊎-elim}
 use Prim.Native.Nat.{ℕ, zero, suc, _+_, _*_, _-_, _/_, _%_, _<_, _≤_}
-use native.Mathlib.Nat.{div-add-mod, mod-lt, mul-le-mul-left, mul-le-mul-right}
+use native.Mathlib.Nat.{div-add-mod, mod-lt, lt-of-mul-lt-mul-right}
 use native.Mathlib.Omega.{arith}
 use lib.Dec.{T, ltb, ltb→lt, nltb→le}
 use borrow.Author.Tests.{lt-ltb, le-ltb}
@@ -67,6 +68,19 @@ nearest-near tie a d h =
     (λ u. let k = ltb→lt d (2 * r) u in record { low = omega arith; high = omega arith; low-tie = λ z. absurd (omega arith); high-tie = λ z. absurd (omega arith) })
     (λ u. let k = nltb→le (2 * r) d t in let m = nltb→le d (2 * r) u in near-tie tie a d q r h e (omega arith)))
 
+-- a quotient at most m is rounded to at most m, and one at least m to at least m
+pub nearest-le : (tie : Tie) (a d m : ℕ) → 0 < d → a ≤ m * d → nearest tie a d ≤ m
+nearest-le tie a d m h b =
+    let n = nearest tie a d in
+    let l : n * d < (m + 1) * d = omega (arith, nearest-near tie a d h .low) in
+    omega (arith, lt-of-mul-lt-mul-right d l)
+
+pub nearest-ge : (tie : Tie) (a d m : ℕ) → 0 < d → m * d ≤ a → m ≤ nearest tie a d
+nearest-ge tie a d m h b =
+    let n = nearest tie a d in
+    let l : m * d < (n + 1) * d = omega (arith, nearest-near tie a d h .high) in
+    omega (arith, lt-of-mul-lt-mul-right d l)
+
 -- ---- over ℤ
 
 sides : (z : ℤ) → (dn z ≡ 0) ⊎ (up z ≡ 0)
@@ -76,6 +90,9 @@ sides (negsuc n) = inr refl
 signed-size : (x : ℤ) (n : ℕ) → natAbs (withSignOf x n) ≡ n
 signed-size (pos a) n = refl
 signed-size (negsuc a) n = omega (arith, size (negℤ (pos n)), neg-up (pos n), neg-dn (pos n))
+
+pub rounded-le : (tie : Tie) (x : ℤ) (d m : ℕ) → 0 < d → natAbs x ≤ m * d → natAbs (rounded tie x d) ≤ m
+rounded-le tie x d m h b = omega (arith, signed-size x (nearest tie (natAbs x) d), nearest-le tie (natAbs x) d m h b)
 
 -- what is left, x − q·d, is the difference of the two sizes, with the sign of x
 rest-is : (x : ℤ) (d n : ℕ) → let z = x -ℤ withSignOf x n *ℤ pos d in (natAbs x + dn z ≡ n * d + up z) ⊎ (natAbs x + up z ≡ n * d + dn z)
