@@ -1,5 +1,5 @@
 -- A fix's figures: rate, clamped rate, amount and settlement price.
-use mathlib.Core.Bool.{Bool, cond, _&&_}
+use mathlib.Core.Bool.{cond, _&&_}
 use Prim.Native.Nat.{ℕ, _+_, _-_, _*_, _/_}
 use lib.Dec.{eqb}
 use lib.IntN.{ℤ, pos, negℤ, _*ℤ_}

@@ -131,7 +131,8 @@ fn index_price(index: u32, previous: Previous) -> u32
     let given = (index != 0) & (previous.price != 0) & (previous.index != 0);
     let sum = index as u64 + previous.price as u64;
     let subtracted = previous.index as u64;
-    let is_price = (LEAST_PRICE as u64 + subtracted <= sum) & (sum <= LARGEST_PRICE as u64 + subtracted);
+    let is_price = (LEAST_PRICE as u64 + subtracted <= sum)
+        & (sum <= LARGEST_PRICE as u64 + subtracted);
     if given & is_price {
         (sum - subtracted) as u32
     } else {

@@ -13,11 +13,11 @@
 use mathlib.Core.Path.{_≡_, refl, sym, _∙_, ap, ap₂, subst}
 use mathlib.Core.Bool.{Bool, true, false}
 use mathlib.Core.List.{List, [], _∷_}
-use Prim.Native.Nat.{ℕ, zero, suc, _+_, _*_, _<_, _≤_, _^_, zero-le}
-use native.Mathlib.Nat.{le-trans, add-le-add, mul-le-mul-left, mul-le-mul-right, le-refl}
+use Prim.Native.Nat.{ℕ, zero, suc, _+_, _*_, _≤_, _^_, zero-le}
+use native.Mathlib.Nat.{le-trans, add-le-add, le-refl}
 use native.Mathlib.Omega.{arith}
 use lib.Dec.{T, ltb, ltb→lt}
-use lib.IntN.{ℤ, pos, negsuc, negℤ, natAbs, _+ℤ_, _-ℤ_, _*ℤ_}
+use lib.IntN.{ℤ, pos, natAbs, _+ℤ_, _-ℤ_, _*ℤ_}
 use lib.Signed.{ltZ, leZ, quotZ, remZ, nonNeg, _≤ℤ_}
 use mir.Syntax.{w64}
 use mir.Val.{SFits, Fits, toZ, ofZ}

@@ -2,11 +2,11 @@
 --     ring ρ a b refl : eval ρ a ≡ eval ρ b
 --     ring3 (λ x y z. ..) (λ x y z. ..) refl : (x y z : ℤ) → .. ≡ ..
 -- Coefficients are native numbers, so their size costs nothing. Assumes nothing.
-use mathlib.Core.Path.{_≡_, refl, sym, _∙_, ap, ap₂, subst}
+use mathlib.Core.Path.{_≡_, refl, sym, _∙_, ap, ap₂}
 use mathlib.Core.List.{List, [], _∷_, _++_}
 use Prim.Native.Nat.{ℕ, zero, suc, compare, Ordering, Ordering·lt, Ordering·eq, Ordering·gt}
 use lib.Dec.{T, isEq, eqb→eq}
-use lib.IntN.{ℤ, pos, negsuc, negℤ, _+ℤ_, _-ℤ_, _*ℤ_, +ℤ-assoc, +ℤ-comm, +ℤ-idl, +ℤ-idr, +ℤ-invr, zero-*ℤ, *ℤ-zero, negℤ-+ℤ, *ℤ-comm}
+use lib.IntN.{ℤ, pos, negsuc, negℤ, _+ℤ_, _-ℤ_, _*ℤ_, +ℤ-assoc, +ℤ-idl, +ℤ-idr, +ℤ-invr, zero-*ℤ, *ℤ-zero, negℤ-+ℤ, *ℤ-comm}
 use Rattle.integers.proofs.Laws.{*ℤ-assoc, *ℤ-distl, *ℤ-distr, *ℤ-left-comm, +ℤ-left-comm, neg-*ℤ, one-*ℤ, sub-zero-eq}
 
 pub data Expr : Type 0 where

@@ -6,20 +6,20 @@
 use mathlib.Core.Path.{_≡_, refl, sym, _∙_, ap}
 use mathlib.Core.Bool.{Bool, true, false, not, cond}
 use mathlib.Core.Logic.{_⊎_, inl, inr, ⊎-elim}
-use Prim.Native.Nat.{ℕ, zero, suc, _+_, _*_, _-_, _/_, _%_, _<_, _≤_}
+use Prim.Native.Nat.{ℕ, zero, suc, _+_, _*_, _/_, _%_, _<_, _≤_}
 use native.Mathlib.Nat.{div-add-mod, mod-lt, lt-of-mul-lt-mul-right}
 use native.Mathlib.Omega.{arith}
 use lib.Dec.{T, ltb, ltb→lt, nltb→le}
 use borrow.Author.Tests.{lt-ltb, le-ltb}
 use lib.IntN.{ℤ, pos, negsuc, negℤ, natAbs, _+ℤ_, _-ℤ_, _*ℤ_, negℤ-+ℤ}
-use lib.Signed.{quotZ, remZ, _<ℤ_, _≤ℤ_}
+use lib.Signed.{quotZ, remZ, _<ℤ_}
 use Rattle.integers.specs.declared.Tie.{Tie}
 use Rattle.integers.specs.declared.Tie.the-variants.{Even, Away}
 use Rattle.integers.specs.Rounding.{withSignOf, onTie, nearest, rounded, distance, Chosen, Nearest, Characterised}
 use Rattle.integers.proofs.Laws.{up, dn, add-is, mul-is, neg-up, neg-dn}
-use Rattle.integers.proofs.Order.{size, apart, ints, abs-mul, abs-sub, lt-to, le-to}
+use Rattle.integers.proofs.Order.{size, apart, ints, abs-mul, abs-sub, lt-to}
 use Rattle.integers.proofs.Machine.{abs-rem}
-use Rattle.integers.proofs.Ring.{ring, _⊕_, _⊖_, _⊗_}
+use Rattle.integers.proofs.Ring.{ring, _⊖_, _⊗_}
 
 -- ---- over ℕ
 

@@ -1,6 +1,6 @@
 -- `funding::accrue` meets its contract: a day's sum and one more weighted basis stay below 2 ^ 63. Assumes nothing.
 use mathlib.Core.List.{_∷_, []}
-use Prim.Native.Nat.{_+_, _*_, _≤_}
+use Prim.Native.Nat.{_≤_}
 use native.Mathlib.Nat.{mul-le-mul-left, mul-le-mul-right}
 use native.Mathlib.Omega.{arith}
 use lib.IntN.{pos, natAbs}

@@ -1,5 +1,5 @@
 -- `funding::basis` meets its contract: two numbers of 32 bits and 10^9 stay below 2 ^ 63. Assumes nothing.
-use mathlib.Core.Path.{_∙_, ap, ap₂}
+use mathlib.Core.Path.{_∙_, ap₂}
 use mathlib.Core.List.{_∷_, []}
 use Prim.Native.Nat.{_≤_}
 use native.Mathlib.Omega.{arith}

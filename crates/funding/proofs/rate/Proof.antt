@@ -1,10 +1,9 @@
 -- `funding::rate` meets its contract: k × (k + 1) of a k of 32 bits fits 64, and its half a signed number. Assumes nothing.
-use mathlib.Core.Path.{_≡_, sym, _∙_, ap, ap₂}
-use mathlib.Core.Bool.{cond}
+use mathlib.Core.Path.{_∙_, ap₂}
 use Prim.Native.Nat.{_+_, _*_, _/_, _<_, _≤_, _^_}
 use native.Mathlib.Nat.{mul-le-mul-left, mul-le-mul-right}
 use native.Mathlib.Omega.{arith}
-use lib.IntN.{pos, natAbs}
+use lib.IntN.{natAbs}
 use mir.Syntax.{w64}
 use mir.Facts.{toZ-ofZ, toZ-pos}
 use borrow.Author.Tests.{eq-eqb, ne-eqb}

@@ -4,7 +4,7 @@ use Prim.Native.Nat.{_+_, _*_, _-_, _≤_}
 use native.Mathlib.Nat.{mul-le-mul-right}
 use native.Mathlib.Omega.{arith}
 use borrow.Author.Needs.{needs}
-use Rattle.funding.proofs.Spread.{leb-same}
+use Rattle.funding.proofs.Tests.{leb-same}
 use Rattle.funding.proofs.within_spread.Statement.{statement}
 use Rattle.funding.proofs.within_spread.Tie as tie
 

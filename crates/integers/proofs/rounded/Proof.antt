@@ -1,13 +1,13 @@
 -- `integers::rounded` meets its contract. Neither the quotient nor the remainder wraps; each return is one law of
 -- proofs/Rounding.antt, by how the remainder's size stands to what it leaves of the divisor. Assumes nothing.
-use mathlib.Core.Path.{_≡_, sym, _∙_, ap, ap₂, subst}
+use mathlib.Core.Path.{_≡_, sym, _∙_, ap, ap₂}
 use mathlib.Core.List.{_∷_, []}
 use Prim.Native.Nat.{_+_, _*_, _<_, _≤_, _^_}
 use native.Mathlib.Nat.{mul-le-mul-right}
 use native.Mathlib.Omega.{arith}
 use lib.Dec.{lit<}
 use lib.IntN.{ℤ, pos, natAbs, _+ℤ_}
-use lib.Signed.{remZ, quotZ, _≤ℤ_, _<ℤ_}
+use lib.Signed.{remZ, quotZ}
 use mir.Syntax.{w64}
 use mir.Val.{SFits, toZ, ofZ}
 use mir.Facts.{toZ-ofZ}
