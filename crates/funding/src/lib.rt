@@ -1,8 +1,8 @@
 // The exchange's funding methodology (document 001): basis, rate, clamp, amount and settlement price, in whole numbers.
 // A price is in cents, a rate in nano (10^-9), an amount in whole cents per contract, a size in hundredths of a coin.
 ghost use mathlib.Core.Path.{_≡_};
-ghost use Prim.Native.Nat.{_+_, _*_, _<_, _≤_, _^_};
-ghost use lib.IntN.{pos, natAbs};
+ghost use Prim.Native.Nat.{_*_, _<_, _≤_, _^_};
+ghost use lib.IntN.{natAbs};
 ghost use Rattle.funding.specs.Price.{isPrice, isTicked};
 ghost use Rattle.funding.specs.Minute.{withinSpread, futuresPrice, basisOf, Accrues, accrued};
 ghost use Rattle.funding.specs.Fixing.{rateOf, clampedTo, amountOf, indexPrice, settlementPrice};
@@ -47,7 +47,7 @@ pub fn is_price(p: u32) -> bool
 pub fn is_ticked(p: u32) -> bool
     ensures { λ r. ⌜ r ≡ isTicked p ⌝ }
 {
-    (LEAST_PRICE <= p) & (p <= LARGEST_PRICE) & (p % TICK == 0)
+    is_price(p) & (p % TICK == 0)
 }
 
 // The spread test. The difference is moved to the other side, so that any two numbers may come.
