@@ -1,4 +1,4 @@
+pub mod Table
 pub mod Tests
 pub mod Spread
 pub mod Bounds
-pub mod Table

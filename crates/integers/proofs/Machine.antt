@@ -5,6 +5,7 @@
 --     complement             `!x` of a negative number is its size less one
 --     below-zero             what a test `x < 0` shows
 --     as-unsigned            what a cast to an unsigned type asks
+--     read-back              a number is what its bits are read as
 --     positive               a number above 0 that was cast to a signed type is above 0
 -- Assumes nothing.
 use mathlib.Core.Path.{_≡_, refl, sym, _∙_, ap}

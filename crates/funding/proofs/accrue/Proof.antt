@@ -27,6 +27,9 @@ weight = add (arg 1) (lit (pos 1))
 abbrev weighted : Op
 weighted = mul weight (arg 2)
 
+returns : tie.Need-returns
+returns c = runs (within c) (add (arg 0) weighted) tt
+
 cast-result : tie.Need-cast-result
 cast-result c = search needs
 
@@ -38,9 +41,6 @@ mul-result c = safe (within c) weighted tt
 
 add-result-2 : tie.Need-add-result-2
 add-result-2 c = safe (within c) (add (arg 0) weighted) tt
-
-returns : tie.Need-returns
-returns c = runs (within c) (add (arg 0) weighted) tt
 
 pub accrue-spec : {M : Type 1} → statement M
 accrue-spec = tie.close (tie.spec cast-result add-result mul-result add-result-2 returns)

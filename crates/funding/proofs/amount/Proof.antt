@@ -31,6 +31,15 @@ module _ (s : tie.Start) where
 abbrev negated : Op
 negated = sub (lit (pos 0)) (arg 0)
 
+-- what the machine has of the dividend
+dividend-is : (s : tie.Start) → toZ w64 (ofZ w64 (pos 0 -ℤ toZ w64 (ofZ w64 (toZ w64 (ofZ w64 (s .args .rate)) *ℤ toZ w64 (s .args .price * s .args .size))))) ≡ negℤ (s .args .rate) *ℤ pos (s .args .price * s .args .size)
+dividend-is s = rw (rate-is s, scale-is s) (runs (within s) negated tt ∙ +ℤ-idl _ ∙ sym (neg-*ℤ (s .args .rate) (pos (s .args .price * s .args .size))))
+
+returns : tie.Need-returns
+returns c =
+    let s = c .before in
+    toZ-ofZ (record { sfits = c .rounded .ok }) ∙ c .rounded .ensures ∙ ap (λ x. rounded (s .args .tie) x 100000000000) (dividend-is s)
+
 mul-scale : tie.Need-mul-scale
 mul-scale c = search needs
 
@@ -45,15 +54,6 @@ sub-rounded c = rw (rate-is c, scale-is c) (safe (within c) negated tt)
 
 rounded-requires : tie.Need-rounded-requires
 rounded-requires c κs = search needs
-
--- what the machine has of the dividend
-dividend-is : (s : tie.Start) → toZ w64 (ofZ w64 (pos 0 -ℤ toZ w64 (ofZ w64 (toZ w64 (ofZ w64 (s .args .rate)) *ℤ toZ w64 (s .args .price * s .args .size))))) ≡ negℤ (s .args .rate) *ℤ pos (s .args .price * s .args .size)
-dividend-is s = rw (rate-is s, scale-is s) (runs (within s) negated tt ∙ +ℤ-idl _ ∙ sym (neg-*ℤ (s .args .rate) (pos (s .args .price * s .args .size))))
-
-returns : tie.Need-returns
-returns c =
-    let s = c .before in
-    toZ-ofZ (record { sfits = c .rounded .ok }) ∙ c .rounded .ensures ∙ ap (λ x. rounded (s .args .tie) x 100000000000) (dividend-is s)
 
 pub amount-spec : {M : Type 1} → statement M
 amount-spec = tie.close (tie.spec mul-scale cast-scale mul-rounded sub-rounded rounded-requires returns)

@@ -28,6 +28,11 @@ difference = sub (arg 0) (arg 1)
 abbrev scaled : Op
 scaled = mul difference (lit (pos 1000000000))
 
+returns : tie.Need-returns
+returns c =
+    let W = within (c .before) in
+    toZ-ofZ (record { sfits = c .half-even .ok }) ∙ c .half-even .ensures ∙ ap₂ (λ x d. halfEven x (natAbs d)) (runs W scaled tt) (runs W (arg 1) tt)
+
 cast-u : tie.Need-cast-u
 cast-u c = search needs
 
@@ -42,11 +47,6 @@ mul-half-even c = safe (within c) scaled tt
 
 half-even-requires : tie.Need-half-even-requires
 half-even-requires c κs = positive (c .pre) (omega arith)
-
-returns : tie.Need-returns
-returns c =
-    let W = within (c .before) in
-    toZ-ofZ (record { sfits = c .half-even .ok }) ∙ c .half-even .ensures ∙ ap₂ (λ x d. halfEven x (natAbs d)) (runs W scaled tt) (runs W (arg 1) tt)
 
 pub basis-spec : {M : Type 1} → statement M
 basis-spec = tie.close (tie.spec cast-u cast-half-even sub-half-even mul-half-even half-even-requires returns)

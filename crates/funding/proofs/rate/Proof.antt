@@ -26,6 +26,12 @@ module _ (s : tie.Start) where
 returns : tie.Need-returns
 returns c = rw (eq-eqb (c .before .args .count) 0 (c .if1 .taken))
 
+returns-2 : tie.Need-returns-2
+returns-2 c =
+    let s = c .before .before in
+    rw (ne-eqb (s .args .count) 0 (c .before .if1 .left))
+    (toZ-ofZ (record { sfits = c .half-even .ok }) ∙ c .half-even .ensures ∙ ap₂ (λ x d. halfEven x (natAbs d)) (toZ-ofZ (s .fits .sum)) (toZ-pos w64 (half-fits s)))
+
 add-half-even : tie.Need-add-half-even
 add-half-even c = search needs
 
@@ -40,12 +46,6 @@ half-even-requires c κs =
     let k = c .before .args .count in
     let b : 1 ≤ k = omega (arith, c .if1 .left) in
     positive (omega (arith, mul-le-mul-right (k + 1) b)) (half-fits (c .before))
-
-returns-2 : tie.Need-returns-2
-returns-2 c =
-    let s = c .before .before in
-    rw (ne-eqb (s .args .count) 0 (c .before .if1 .left))
-    (toZ-ofZ (record { sfits = c .half-even .ok }) ∙ c .half-even .ensures ∙ ap₂ (λ x d. halfEven x (natAbs d)) (toZ-ofZ (s .fits .sum)) (toZ-pos w64 (half-fits s)))
 
 pub rate-spec : {M : Type 1} → statement M
 rate-spec = tie.close (tie.spec returns add-half-even mul-half-even cast-half-even half-even-requires returns-2)

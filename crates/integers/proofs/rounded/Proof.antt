@@ -112,6 +112,12 @@ within c = let s = c .before .before .before in q-half s (omega (arith, at-half 
 abbrev to-even : Op
 to-even = add (arg 0) (rem (arg 0) (lit (pos 2)))
 
+returns-3 : tie.Need-returns-3
+returns-3 c =
+    let e = c .before .before in
+    let s = e .before .before .before in
+    rw (x-back s, d-back s) (runs (within e) to-even tt) ∙ even (s .args .x) (s .args .d) (s .pre) (at-half e) ∙ ap (λ t. rounded t (s .args .x) (natAbs (s .args .d))) (sym (c .enum-told .given .1))
+
 rem-result : tie.Need-rem-result
 rem-result c = let e = c .before .before in rw (q-is (e .before .before .before)) (lit< tt, fits (within e) (quo (arg 0) (lit (pos 2))) tt)
 
@@ -126,12 +132,6 @@ farther-requires-2 c κs =
     let e = c .before .before in
     let s = e .before .before .before in
     rw (q-is s) (q-small s (omega (arith, at-half e)))
-
-returns-3 : tie.Need-returns-3
-returns-3 c =
-    let e = c .before .before in
-    let s = e .before .before .before in
-    rw (x-back s, d-back s) (runs (within e) to-even tt) ∙ even (s .args .x) (s .args .d) (s .pre) (at-half e) ∙ ap (λ t. rounded t (s .args .x) (natAbs (s .args .d))) (sym (c .enum-told .given .1))
 
 returns-4 : tie.Need-returns-4
 returns-4 c =
