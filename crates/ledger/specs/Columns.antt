@@ -24,7 +24,7 @@ abbrev pub raiseCount : List ℕ → ℕ → ℕ → List ℕ
 raiseCount l j n = set l j (countAt l j + n)
 
 -- the column f 0, f 1, .., f (n − 1)
-pub table {ℓ} : {A : Type ℓ} → ℕ → (ℕ → A) → List A
+unfoldable pub table {ℓ} : {A : Type ℓ} → ℕ → (ℕ → A) → List A
 table zero f = []
 table (suc n) f = f 0 ∷ table n (λ j. f (suc j))
 
