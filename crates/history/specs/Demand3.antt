@@ -35,15 +35,19 @@ pub record Whole (d : History) : Type 0 where
   pub minute-ends : length (minuteEnds d) ≡ dayLength
   pub one-fix : length (fixes d) ≡ 1
 
-abbrev pub Every : (History → Type 0) → List History → Type 0
+abbrev pub Every : {A : Type 0} → (A → Type 0) → List A → Type 0
 Every P [] = Unit {0}
-Every P (d ∷ ds) = P d × Every P ds
+Every P (x ∷ xs) = P x × Every P xs
+
+-- a column added up
+abbrev pub total : List ℤ → ℤ
+total l = sum (λ z. z) l
 
 pub record Demand3 (n s : ℕ) (cs : List Call) : Type 0 where
   pub cash : (j : ℕ) → j < n → entry (after n s cs .cash) j ≡ cashOf s (history n s cs) j
   pub position : (j : ℕ) → j < n → entry (after n s cs .position) j ≡ net (history n s cs) j
-  pub positions-cancel : sum (λ z. z) (after n s cs .position) ≡ pos 0
-  pub cash-cancels : sum (λ z. z) (after n s cs .cash) ≡ pos 0
+  pub positions-cancel : total (after n s cs .position) ≡ pos 0
+  pub cash-cancels : total (after n s cs .cash) ≡ pos 0
   pub calls-of-days : history n s cs ≡ today (history n s cs) ++ callsOf (closings (history n s cs))
   pub closed-days : Every Whole (closings (history n s cs))
 

@@ -1,0 +1,132 @@
+-- The book of a history, and that an accepted call leads from the book of h to the book of c ∷ h. Assumes nothing.
+use mathlib.Core.Path.{_≡_, refl, sym, _∙_, ap, ap₂}
+use mathlib.Core.Logic.{_≢_}
+use mathlib.Core.Bool.{Bool, true, false, cond}
+use mathlib.Core.List.{List, [], _∷_}
+use Prim.Native.Nat.{ℕ, _+_, _*_, _<_}
+use native.Mathlib.Nat.{add-assoc, add-zero}
+use native.Mathlib.Numerals.{add-one}
+use lib.Dec.{eqb}
+use lib.IntN.{ℤ, pos, negℤ, _+ℤ_, _-ℤ_, _*ℤ_, +ℤ-idr, +ℤ-assoc}
+use lib.ListN.{length, replicate}
+use Rattle.integers.proofs.Ring.{ring, _⊕_, _⊖_, _⊗_, ⊝_, num}
+use Rattle.funding.specs.Minute.{Minute, weightedSum}
+use Rattle.ledger.specs.declared.Trade.{Trade}
+use Rattle.ledger.specs.declared.Call.{Call}
+use Rattle.ledger.specs.declared.Call.the-variants as call
+use Rattle.ledger.specs.declared.Day.{Day}
+use Rattle.ledger.specs.declared.Figures.{Figures}
+use Rattle.ledger.specs.declared.Book.{Book}
+use Rattle.ledger.specs.Columns.{entry, raise, raiseCount, table}
+use Rattle.ledger.specs.Day.{isFinal, withTrade, isValid, minuteOf, termsOn}
+use Rattle.ledger.specs.Opening.{fresh}
+use Rattle.ledger.specs.Effects.{figuresAfter, exchanged, counted, posting, cashAfter, effect}
+use Rattle.history.specs.History.{History, Given, halted, market, minuteMarket, last, closings, today, closedPart, withIf, trades, minuteEnds, fixes, minutes, endsValid, validOf, validMinutes, finalTrades}
+use Rattle.history.specs.Figures.{count, sum, finalMinute, indexOf, indexOn, priceOf, previousOf, priceOn, rateAt, amountAt, amountOn, at, signed, net, yield, paid, cashOf}
+use Rattle.history.proofs.Columns.{table-ext, entry-table, replicate-table, raise-table, raiseCount-table}
+
+-- ---- the book of a history
+
+abbrev pub dayOf : ℕ → History → Day
+dayOf s h = record {
+  minutes = minutes h;
+  valid = length (validMinutes h);
+  weighted = weightedSum (validMinutes h);
+  market = market h;
+  minute = minuteMarket h;
+  last = last h;
+  traded = finalMinute (finalTrades h);
+  index = indexOn h;
+  price = priceOn h;
+  amount = amountOn s h;
+}
+
+abbrev pub figuresOf : ℕ → History → Figures
+figuresOf s h = record { size = s; closed = length (closings h); halted = halted h; previous = previousOf (closings h); day = dayOf s h }
+
+-- an account's signed quantity × price, over all trades and over today's
+abbrev pub worth : History → ℕ → ℤ
+worth h j = sum (λ t. signed j t *ℤ pos (t .price)) (trades h)
+
+abbrev pub costOf : History → ℕ → ℤ
+costOf h j = worth h j -ℤ worth (closedPart (closings h)) j
+
+-- an account's contracts bought plus sold today
+abbrev pub volumeOf : History → ℕ → ℕ
+volumeOf h j = count (λ t. cond (eqb (t .buyer) j) (t .quantity) 0 + cond (eqb (t .seller) j) (t .quantity) 0) (trades (today h))
+
+abbrev pub bookOf : ℕ → ℕ → History → Book
+bookOf n s h = record {
+  figures = figuresOf s h;
+  opening = table n (net (closedPart (closings h)));
+  position = table n (net h);
+  cost = table n (costOf h);
+  volume = table n (volumeOf h);
+  cash = table n (cashOf s h);
+}
+
+-- ---- the figures, call by call
+
+if-ap : {A B : Type 0} (f : List A → B) (t : Bool) (x : A) (l : List A) → cond t (f (x ∷ l)) (f l) ≡ f (withIf t x l)
+unfolding withIf
+if-ap f true x l = refl
+if-ap f false x l = refl
+
+-- the minute that ends after h with the index u, and whether it is valid
+abbrev ending : History → ℕ → Given
+ending h u = record { value = u; before = h }
+
+abbrev minuteAt : History → ℕ → Minute
+minuteAt h u = minuteOf (minuteMarket h) (last h) u
+
+valid-after : (h : History) (u : ℕ) → cond (endsValid (ending h u)) (length (validMinutes h) + 1) (length (validMinutes h)) ≡ length (withIf (endsValid (ending h u)) (minuteAt h u) (validMinutes h))
+valid-after h u = ap (λ k. cond (endsValid (ending h u)) k (length (validMinutes h))) (add-one (length (validMinutes h))) ∙ if-ap length (endsValid (ending h u)) (minuteAt h u) (validMinutes h)
+
+figures-after : (s : ℕ) (h : History) (c : Call) → figuresAfter (figuresOf s h) c ≡ figuresOf s (c ∷ h)
+unfolding figuresAfter halted market minuteMarket last closings minuteEnds fixes validOf finalTrades count indexOf priceOf previousOf amountAt weightedSum
+figures-after s h (call.Quote m) = refl
+figures-after s h (call.Trade t) = cc (if-ap finalMinute (isFinal (minutes h) t) t (finalTrades h))
+figures-after s h call.Halt = refl
+figures-after s h call.Resume = refl
+figures-after s h (call.MinuteEnd u) = cc (add-one (minutes h), valid-after h u, if-ap weightedSum (endsValid (ending h u)) (minuteAt h u) (validMinutes h))
+figures-after s h (call.Fix set) = refl
+figures-after s h call.Close = cc (add-one (length (closings h)))
+
+-- ---- the columns after a trade
+
+exchanged-table : (n : ℕ) (f : ℕ → ℤ) (t : Trade) (a : ℕ) → exchanged (table n f) t a ≡ table n (λ j. f j +ℤ (at (t .buyer) j (pos a) +ℤ at (t .seller) j (negℤ (pos a))))
+exchanged-table n f t a =
+    ap (λ (l : List ℤ). raise l (t .seller) (negℤ (pos a))) (raise-table n (t .buyer) (pos a) f) ∙ raise-table n (t .seller) (negℤ (pos a)) (λ j. f j +ℤ at (t .buyer) j (pos a))
+    ∙ table-ext n _ _ (λ j k. +ℤ-assoc (f j) (at (t .buyer) j (pos a)) (at (t .seller) j (negℤ (pos a))))
+
+counted-table : (n : ℕ) (f : ℕ → ℕ) (t : Trade) → counted (table n f) t ≡ table n (λ j. f j + (cond (eqb (t .buyer) j) (t .quantity) 0 + cond (eqb (t .seller) j) (t .quantity) 0))
+counted-table n f t =
+    ap (λ (l : List ℕ). raiseCount l (t .seller) (t .quantity)) (raiseCount-table n (t .buyer) (t .quantity) f) ∙ raiseCount-table n (t .seller) (t .quantity) (λ j. f j + cond (eqb (t .buyer) j) (t .quantity) 0)
+    ∙ table-ext n _ _ (λ j k. add-assoc (f j) (cond (eqb (t .buyer) j) (t .quantity) 0) (cond (eqb (t .seller) j) (t .quantity) 0))
+
+-- quantity × price, for the buyer and the seller
+signed-worth : (j : ℕ) (t : Trade) → signed j t *ℤ pos (t .price) ≡ at (t .buyer) j (pos (t .quantity * t .price)) +ℤ at (t .seller) j (negℤ (pos (t .quantity * t .price)))
+signed-worth j t = go (eqb (t .buyer) j) (eqb (t .seller) j) (pos (t .quantity)) (pos (t .price))
+  where
+    go : (x y : Bool) (q p : ℤ) → (cond x q (pos 0) +ℤ cond y (negℤ q) (pos 0)) *ℤ p ≡ cond x (q *ℤ p) (pos 0) +ℤ cond y (negℤ (q *ℤ p)) (pos 0)
+    go true true = ring 2 (λ q p. (q ⊕ ⊝ q) ⊗ p) (λ q p. q ⊗ p ⊕ ⊝ (q ⊗ p)) refl
+    go true false = ring 2 (λ q p. (q ⊕ num 0) ⊗ p) (λ q p. q ⊗ p ⊕ num 0) refl
+    go false true = ring 2 (λ q p. (num 0 ⊕ ⊝ q) ⊗ p) (λ q p. num 0 ⊕ ⊝ (q ⊗ p)) refl
+    go false false = ring 2 (λ q p. (num 0 ⊕ num 0) ⊗ p) (λ q p. num 0 ⊕ num 0) refl
+
+cost-traded : (n : ℕ) (h : History) (t : Trade) → exchanged (table n (costOf h)) t (t .quantity * t .price) ≡ table n (costOf (call.Trade t ∷ h))
+unfolding closings trades sum
+cost-traded n h t =
+    exchanged-table n (costOf h) t (t .quantity * t .price)
+    ∙ table-ext n _ _ (λ j k. ap (λ z. costOf h j +ℤ z) (sym (signed-worth j t)) ∙ ring 3 (λ w v x. w ⊖ v ⊕ x) (λ w v x. w ⊕ x ⊖ v) refl (worth h j) (worth (closedPart (closings h)) j) (signed j t *ℤ pos (t .price)))
+
+-- ---- the columns after a close
+
+-- gains against the price P are (net × P − worth) × size
+gains : (s P j : ℕ) (ts : List Trade) → sum (yield s P j) ts ≡ (sum (signed j) ts *ℤ pos P -ℤ sum (λ t. signed j t *ℤ pos (t .price)) ts) *ℤ pos s
+unfolding sum
+gains s P j [] = ring 2 (λ P s. num 0) (λ P s. (num 0 ⊗ P ⊖ num 0) ⊗ s) refl (pos P) (pos s)
+gains s P j (t ∷ ts) =
+    ap (λ z. z +ℤ yield s P j t) (gains s P j ts)
+    ∙ ring 6 (λ n w q p P s. (n ⊗ P ⊖ w) ⊗ s ⊕ q ⊗ (P ⊖ p) ⊗ s) (λ n w q p P s. ((n ⊕ q) ⊗ P ⊖ (w ⊕ q ⊗ p)) ⊗ s) refl
+    (sum (signed j) ts) (sum (λ t. signed j t *ℤ pos (t .price)) ts) (signed j t) (pos (t .price)) (pos P) (pos s)
