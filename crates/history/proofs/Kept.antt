@@ -7,7 +7,7 @@ use Prim.Native.Nat.{ℕ, _+_, _*_, _<_}
 use native.Mathlib.Nat.{add-assoc, add-zero}
 use native.Mathlib.Numerals.{add-one}
 use lib.Dec.{eqb}
-use lib.IntN.{ℤ, pos, negℤ, _+ℤ_, _-ℤ_, _*ℤ_, +ℤ-idr, +ℤ-assoc}
+use lib.IntN.{ℤ, pos, negℤ, _+ℤ_, _-ℤ_, _*ℤ_, +ℤ-assoc, +ℤ-invr}
 use lib.ListN.{length, replicate}
 use Rattle.integers.proofs.Ring.{ring, _⊕_, _⊖_, _⊗_, ⊝_, num}
 use Rattle.funding.specs.Minute.{Minute, weightedSum}
@@ -130,3 +130,36 @@ gains s P j (t ∷ ts) =
     ap (λ z. z +ℤ yield s P j t) (gains s P j ts)
     ∙ ring 6 (λ n w q p P s. (n ⊗ P ⊖ w) ⊗ s ⊕ q ⊗ (P ⊖ p) ⊗ s) (λ n w q p P s. ((n ⊕ q) ⊗ P ⊖ (w ⊕ q ⊗ p)) ⊗ s) refl
     (sum (signed j) ts) (sum (λ t. signed j t *ℤ pos (t .price)) ts) (signed j t) (pos (t .price)) (pos P) (pos s)
+
+-- what the account j had, what the close of h posts to it, and what it has then
+cash-closed : (n s : ℕ) (h : History) (j : ℕ) → j < n → cashAfter (bookOf n s h) j ≡ cashOf s (call.Close ∷ h) j
+unfolding closings closedPart previousOf sum
+cash-closed n s h j k =
+    cc (entry-table n j (cashOf s h) (pos 0) k, entry-table n j (net h) (pos 0) k, entry-table n j (net (closedPart (closings h))) (pos 0) k, entry-table n j (costOf h) (pos 0) k)
+    ∙ ap (λ z. z +ℤ sum (paid s j) (closings h) +ℤ posting (figuresOf s h) (net h j) (net (closedPart (closings h)) j) (costOf h j)) (gains s (previousOf (closings h) .price) j (trades (closedPart (closings h))))
+    ∙ ring 9
+    (λ n P w m Q v s f a. (m ⊗ Q ⊖ v) ⊗ s ⊕ f ⊕ ((n ⊗ P ⊖ m ⊗ Q ⊖ (w ⊖ v)) ⊗ s ⊕ n ⊗ a ⊗ num 100))
+    (λ n P w m Q v s f a. (n ⊗ P ⊖ w) ⊗ s ⊕ (f ⊕ n ⊗ a ⊗ num 100))
+    refl
+    (net h j) (pos (priceOn h)) (worth h j) (net (closedPart (closings h)) j) (pos (previousOf (closings h) .price)) (worth (closedPart (closings h)) j) (pos s) (sum (paid s j) (closings h)) (amountOn s h)
+    ∙ ap (λ z. z +ℤ (sum (paid s j) (closings h) +ℤ paid s j h)) (sym (gains s (priceOn h) j (trades h)))
+
+cost-closed : (n : ℕ) (h : History) → replicate n (pos 0) ≡ table n (costOf (call.Close ∷ h))
+unfolding closings closedPart trades
+cost-closed n h = replicate-table n (pos 0) ∙ table-ext n (λ j. pos 0) (costOf (call.Close ∷ h)) (λ j k. sym (+ℤ-invr (worth h j)))
+
+-- ---- the book, call by call
+
+pub effect-is : (n s : ℕ) (h : History) (c : Call) → effect n (bookOf n s h) c ≡ bookOf n s (c ∷ h)
+unfolding effect figuresAfter closings today closedPart trades count sum
+effect-is n s h (call.Quote m) = cc (figures-after s h (call.Quote m))
+effect-is n s h (call.Trade t) = cc (figures-after s h (call.Trade t), exchanged-table n (net h) t (t .quantity), cost-traded n h t, counted-table n (volumeOf h) t)
+effect-is n s h call.Halt = cc (figures-after s h call.Halt)
+effect-is n s h call.Resume = cc (figures-after s h call.Resume)
+effect-is n s h (call.MinuteEnd u) = cc (figures-after s h (call.MinuteEnd u))
+effect-is n s h (call.Fix set) = cc (figures-after s h (call.Fix set))
+effect-is n s h call.Close = cc (figures-after s h call.Close, cost-closed n h, replicate-table {A = ℕ} n 0, table-ext n (cashAfter (bookOf n s h)) (cashOf s (call.Close ∷ h)) (cash-closed n s h))
+
+pub fresh-is : (n s : ℕ) → fresh n s ≡ bookOf n s []
+unfolding halted market minuteMarket last closings today closedPart trades minuteEnds fixes validOf finalTrades count sum indexOf priceOf previousOf amountAt weightedSum
+fresh-is n s = cc (replicate-table n (pos 0), replicate-table {A = ℕ} n 0)
