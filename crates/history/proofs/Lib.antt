@@ -1,3 +1,4 @@
 pub mod Columns
 pub mod Sums
 pub mod Kept
+pub mod Accepted
