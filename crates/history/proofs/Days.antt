@@ -1,7 +1,7 @@
 -- The days of a history: every call is in one, and each closed day has all its minute ends and one fix. Assumes nothing.
 use mathlib.Core.Path.{_≡_, refl, sym, _∙_, ap}
 use mathlib.Core.Bool.{Bool, true, false, not, cond, _&&_, _||_}
-use mathlib.Core.List.{List, [], _∷_, _++_}
+use mathlib.Core.List.{[], _∷_, _++_}
 use Prim.Native.Nat.{ℕ, suc}
 use borrow.Author.Tests.{eqb-true, not-false}
 use lib.Dec.{leb, ltb, eqb}
@@ -17,7 +17,7 @@ use Rattle.ledger.specs.Opening.{isSize}
 use Rattle.ledger.specs.Limits.{noneOrPrice, minutesHold, marketHolds, minuteHolds, pricesHold, fixHolds, finalHolds, dayHolds, figuresHold, accountOf, withinLimits}
 use Rattle.ledger.specs.Effects.{priceAt}
 use Rattle.history.specs.History.{History, closings, today, fixes, minutes}
-use Rattle.history.specs.Figures.{priceOf, priceOn}
+use Rattle.history.specs.Figures.{atFix, priceOn}
 use Rattle.history.specs.Demand3.{callsOf, Whole, Every}
 use Rattle.history.proofs.Kept.{dayOf, figuresOf, bookOf}
 use Rattle.history.proofs.Accepted.{Allowed, Accepted, or-no, and-yes}
@@ -51,7 +51,7 @@ closes-accepted n s (call.Close ∷ h) a = (a, closes-accepted n s h (a .1))
 
 -- a day has one fix once P stands, and none before
 one-fix : (n s : ℕ) (h : History) → Accepted n s h → length (fixes h) ≡ cond (isGiven (priceOn h)) 1 0
-unfolding closings fixes priceOf
+unfolding closings fixes atFix
 one-fix n s [] a = refl
 one-fix n s (call.Quote m ∷ h) a = one-fix n s h (a .1)
 one-fix n s (call.Trade t ∷ h) a = one-fix n s h (a .1)

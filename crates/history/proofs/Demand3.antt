@@ -1,11 +1,10 @@
 -- Demand 3, proved. Assumes nothing.
 use mathlib.Core.Path.{_≡_, sym, _∙_, ap, subst}
 use mathlib.Core.Bool.{Bool, true, false, cond}
-use mathlib.Core.List.{List, []}
+use mathlib.Core.List.{[]}
 use Prim.Native.Nat.{ℕ}
 use native.Mathlib.Nat.{suc-ne-zero}
 use lib.IntN.{pos}
-use Rattle.ledger.specs.declared.Call.{Call}
 use Rattle.ledger.specs.declared.Book.{Book}
 use Rattle.ledger.specs.Columns.{entry}
 use Rattle.ledger.specs.Opening.{isSize, fresh, opening}

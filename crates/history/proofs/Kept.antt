@@ -1,10 +1,9 @@
 -- The book of a history, and that an accepted call leads from the book of h to the book of c ∷ h. Assumes nothing.
-use mathlib.Core.Path.{_≡_, refl, sym, _∙_, ap, ap₂}
-use mathlib.Core.Logic.{_≢_}
+use mathlib.Core.Path.{_≡_, refl, sym, _∙_, ap}
 use mathlib.Core.Bool.{Bool, true, false, cond}
 use mathlib.Core.List.{List, [], _∷_}
 use Prim.Native.Nat.{ℕ, _+_, _*_, _<_}
-use native.Mathlib.Nat.{add-assoc, add-zero}
+use native.Mathlib.Nat.{add-assoc}
 use native.Mathlib.Numerals.{add-one}
 use lib.Dec.{eqb}
 use lib.IntN.{ℤ, pos, negℤ, _+ℤ_, _-ℤ_, _*ℤ_, +ℤ-assoc, +ℤ-invr}
@@ -17,12 +16,12 @@ use Rattle.ledger.specs.declared.Call.the-variants as call
 use Rattle.ledger.specs.declared.Day.{Day}
 use Rattle.ledger.specs.declared.Figures.{Figures}
 use Rattle.ledger.specs.declared.Book.{Book}
-use Rattle.ledger.specs.Columns.{entry, raise, raiseCount, table}
-use Rattle.ledger.specs.Day.{isFinal, withTrade, isValid, minuteOf, termsOn}
+use Rattle.ledger.specs.Columns.{raise, raiseCount, table}
+use Rattle.ledger.specs.Day.{isFinal, minuteOf}
 use Rattle.ledger.specs.Opening.{fresh}
 use Rattle.ledger.specs.Effects.{figuresAfter, exchanged, counted, posting, cashAfter, effect}
-use Rattle.history.specs.History.{History, Given, halted, market, minuteMarket, last, closings, today, closedPart, withIf, trades, minuteEnds, fixes, minutes, endsValid, validOf, validMinutes, finalTrades}
-use Rattle.history.specs.Figures.{count, sum, finalMinute, indexOf, indexOn, priceOf, previousOf, priceOn, rateAt, amountAt, amountOn, at, signed, net, yield, paid, cashOf}
+use Rattle.history.specs.History.{History, Moment, halted, market, minuteMarket, last, closings, today, closedPart, withIf, trades, minuteEnds, fixes, minutes, endsValid, validOf, validMinutes, finalTrades}
+use Rattle.history.specs.Figures.{sumCount, sum, finalMinute, indexOf, indexOn, atFix, previousOf, priceOn, amountOn, at, signed, net, yield, paid, cashOf}
 use Rattle.history.proofs.Columns.{table-ext, entry-table, replicate-table, raise-table, raiseCount-table}
 
 -- ---- the book of a history
@@ -53,7 +52,7 @@ costOf h j = worth h j -ℤ worth (closedPart (closings h)) j
 
 -- an account's contracts bought plus sold today
 abbrev pub volumeOf : History → ℕ → ℕ
-volumeOf h j = count (λ t. cond (eqb (t .buyer) j) (t .quantity) 0 + cond (eqb (t .seller) j) (t .quantity) 0) (trades (today h))
+volumeOf h j = sumCount (λ t. cond (eqb (t .buyer) j) (t .quantity) 0 + cond (eqb (t .seller) j) (t .quantity) 0) (trades (today h))
 
 abbrev pub bookOf : ℕ → ℕ → History → Book
 bookOf n s h = record {
@@ -73,7 +72,7 @@ if-ap f true x l = refl
 if-ap f false x l = refl
 
 -- the minute that ends after h with the index u, and whether it is valid
-abbrev ending : History → ℕ → Given
+abbrev ending : History → ℕ → Moment
 ending h u = record { value = u; before = h }
 
 abbrev minuteAt : History → ℕ → Minute
@@ -83,7 +82,7 @@ valid-after : (h : History) (u : ℕ) → cond (endsValid (ending h u)) (length 
 valid-after h u = ap (λ k. cond (endsValid (ending h u)) k (length (validMinutes h))) (add-one (length (validMinutes h))) ∙ if-ap length (endsValid (ending h u)) (minuteAt h u) (validMinutes h)
 
 figures-after : (s : ℕ) (h : History) (c : Call) → figuresAfter (figuresOf s h) c ≡ figuresOf s (c ∷ h)
-unfolding figuresAfter halted market minuteMarket last closings minuteEnds fixes validOf finalTrades count indexOf priceOf previousOf amountAt weightedSum
+unfolding figuresAfter halted market minuteMarket last closings minuteEnds fixes validOf finalTrades sumCount indexOf atFix previousOf weightedSum
 figures-after s h (call.Quote m) = refl
 figures-after s h (call.Trade t) = cc (if-ap finalMinute (isFinal (minutes h) t) t (finalTrades h))
 figures-after s h call.Halt = refl
@@ -151,7 +150,7 @@ cost-closed n h = replicate-table n (pos 0) ∙ table-ext n (λ j. pos 0) (costO
 -- ---- the book, call by call
 
 pub effect-is : (n s : ℕ) (h : History) (c : Call) → effect n (bookOf n s h) c ≡ bookOf n s (c ∷ h)
-unfolding effect figuresAfter closings today closedPart trades count sum
+unfolding effect figuresAfter closings today closedPart trades sumCount sum
 effect-is n s h (call.Quote m) = cc (figures-after s h (call.Quote m))
 effect-is n s h (call.Trade t) = cc (figures-after s h (call.Trade t), exchanged-table n (net h) t (t .quantity), cost-traded n h t, counted-table n (volumeOf h) t)
 effect-is n s h call.Halt = cc (figures-after s h call.Halt)
@@ -161,5 +160,5 @@ effect-is n s h (call.Fix set) = cc (figures-after s h (call.Fix set))
 effect-is n s h call.Close = cc (figures-after s h call.Close, cost-closed n h, replicate-table {A = ℕ} n 0, table-ext n (cashAfter (bookOf n s h)) (cashOf s (call.Close ∷ h)) (cash-closed n s h))
 
 pub fresh-is : (n s : ℕ) → fresh n s ≡ bookOf n s []
-unfolding halted market minuteMarket last closings today closedPart trades minuteEnds fixes validOf finalTrades count sum indexOf priceOf previousOf amountAt weightedSum
+unfolding halted market minuteMarket last closings today closedPart trades minuteEnds fixes validOf finalTrades sumCount sum indexOf atFix previousOf weightedSum
 fresh-is n s = cc (replicate-table n (pos 0), replicate-table {A = ℕ} n 0)

@@ -12,12 +12,12 @@ use Rattle.funding.specs.Minute.{weightedSum}
 use Rattle.funding.specs.Fixing.{rateOf, clampedTo, amountOf, settlementPrice}
 use Rattle.ledger.specs.declared.Trade.{Trade}
 use Rattle.ledger.specs.Day.{termsOn, tieOn, inLastMinute}
-use Rattle.history.specs.History.{History, Given, closings, closedPart, trades, minuteEnds, fixes, validMinutes, finalTrades}
+use Rattle.history.specs.History.{History, Moment, closings, closedPart, trades, minuteEnds, fixes, validMinutes, finalTrades}
 
 -- f of each element of a list, added up
-unfoldable pub count : {A : Type 0} → (A → ℕ) → List A → ℕ
-count f [] = 0
-count f (x ∷ xs) = count f xs + f x
+unfoldable pub sumCount : {A : Type 0} → (A → ℕ) → List A → ℕ
+sumCount f [] = 0
+sumCount f (x ∷ xs) = sumCount f xs + f x
 
 unfoldable pub sum : {A : Type 0} → (A → ℤ) → List A → ℤ
 sum f [] = pos 0
@@ -27,41 +27,43 @@ sum f (x ∷ xs) = sum f xs +ℤ f x
 
 -- "n and gross add up its final-minute kind 0 trades"
 abbrev pub finalMinute : List Trade → FinalMinute
-finalMinute ts = record { contracts = count (λ t. t .quantity) ts; gross = count (λ t. t .quantity * t .price) ts }
+finalMinute ts = record { contracts = sumCount (λ t. t .quantity) ts; gross = sumCount (λ t. t .quantity * t .price) ts }
 
 -- "The u of minute 1,320 is the day's index", 0 before it
-unfoldable pub indexOf : List Given → ℕ
+unfoldable pub indexOf : List Moment → ℕ
 indexOf [] = 0
 indexOf (m ∷ ms) = cond (inLastMinute (length ms)) (m .value) (indexOf ms)
 
 abbrev pub indexOn : History → ℕ
 indexOn h = indexOf (minuteEnds h)
 
--- P at a fix, 0 before it
-unfoldable pub priceOf : Previous → List Given → ℕ
-priceOf previous [] = 0
-priceOf previous (x ∷ xs) = settlementPrice (x .value) (finalMinute (finalTrades (x .before))) (indexOn (x .before)) previous
+-- P at a fix, with the price and the index of the closed day before
+abbrev pub priceAt : Previous → Moment → ℕ
+priceAt previous fix = settlementPrice (fix .value) (finalMinute (finalTrades (fix .before))) (indexOn (fix .before)) previous
+
+-- what is said of a day's fix, or `none` before it
+unfoldable pub atFix : {A : Type 0} → A → (Moment → A) → List Moment → A
+atFix none f [] = none
+atFix none f (x ∷ xs) = f x
 
 -- "the previous price and index are P and the index of the closed day before, 0 without one"
 unfoldable pub previousOf : List History → Previous
 previousOf [] = record { price = 0; index = 0 }
-previousOf (d ∷ ds) = record { price = priceOf (previousOf ds) (fixes d); index = indexOn d }
+previousOf (d ∷ ds) = record { price = atFix 0 (priceAt (previousOf ds)) (fixes d); index = indexOn d }
 
--- P of the day
 abbrev pub priceOn : History → ℕ
-priceOn h = priceOf (previousOf (closings h)) (fixes h)
+priceOn h = atFix 0 (priceAt (previousOf (closings h))) (fixes h)
 
--- "k counts the day's valid minutes, S adds i × basis for the i-th of them": the clamped rate at this moment
-abbrev pub rateAt : History → ℤ
-rateAt h = clampedTo (termsOn (length (closings h))) (rateOf (length (validMinutes h)) (weightedSum (validMinutes h)))
+-- "k counts the day's valid minutes, S adds i × basis for the i-th of them"; their rate, clamped
+abbrev pub rateOn : History → ℤ
+rateOn h = clampedTo (termsOn (length (closings h))) (rateOf (length (validMinutes h)) (weightedSum (validMinutes h)))
 
--- the amount of a day of contract size s at its fix, where P is the day's; 0 before it
-unfoldable pub amountAt : ℕ → ℕ → List Given → ℤ
-amountAt s P [] = pos 0
-amountAt s P (x ∷ xs) = amountOf (tieOn (length (closings (x .before)))) (rateAt (x .before)) P s
+-- the amount at a fix, for the contract size s
+abbrev pub amountAt : ℕ → Previous → Moment → ℤ
+amountAt s previous fix = amountOf (tieOn (length (closings (fix .before)))) (rateOn (fix .before)) (priceAt previous fix) s
 
 abbrev pub amountOn : ℕ → History → ℤ
-amountOn s h = amountAt s (priceOn h) (fixes h)
+amountOn s h = atFix (pos 0) (amountAt s (previousOf (closings h))) (fixes h)
 
 -- ---- an account
 

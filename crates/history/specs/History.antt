@@ -107,13 +107,13 @@ trades (call.MinuteEnd u ∷ h) = trades h
 trades (call.Fix set ∷ h) = trades h
 trades (call.Close ∷ h) = trades h
 
--- the value that a call gives, and the calls before it
-pub record Given : Type 0 where
+-- the moment of a call: the value that it gives, and the calls before it
+pub record Moment : Type 0 where
   pub value : ℕ
   pub before : History
 
 -- the open day's minute ends, with their indexes
-unfoldable pub minuteEnds : History → List Given
+unfoldable pub minuteEnds : History → List Moment
 minuteEnds [] = []
 minuteEnds (call.Quote m ∷ h) = minuteEnds h
 minuteEnds (call.Trade t ∷ h) = minuteEnds h
@@ -124,7 +124,7 @@ minuteEnds (call.Fix set ∷ h) = minuteEnds h
 minuteEnds (call.Close ∷ h) = []
 
 -- the open day's fixes, with their set prices
-unfoldable pub fixes : History → List Given
+unfoldable pub fixes : History → List Moment
 fixes [] = []
 fixes (call.Quote m ∷ h) = fixes h
 fixes (call.Trade t ∷ h) = fixes h
@@ -139,11 +139,11 @@ abbrev pub minutes : History → ℕ
 minutes h = length (minuteEnds h)
 
 -- "the minute is valid when the book isn't halted, the minute's market (b, a) exists, u is not 0, and" its spread is within the limit
-abbrev pub endsValid : Given → Bool
+abbrev pub endsValid : Moment → Bool
 endsValid m = isValid (termsOn (length (closings (m .before)))) (halted (m .before)) (minuteMarket (m .before)) (m .value)
 
 -- the valid ones of these minute ends: their futures prices and indexes
-unfoldable pub validOf : List Given → List Minute
+unfoldable pub validOf : List Moment → List Minute
 validOf [] = []
 validOf (m ∷ ms) = withIf (endsValid m) (minuteOf (minuteMarket (m .before)) (last (m .before)) (m .value)) (validOf ms)
 
