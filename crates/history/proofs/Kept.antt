@@ -9,7 +9,7 @@ use lib.Dec.{eqb}
 use lib.IntN.{ℤ, pos, negℤ, _+ℤ_, _-ℤ_, _*ℤ_, +ℤ-assoc, +ℤ-invr}
 use lib.ListN.{length, replicate}
 use Rattle.integers.proofs.Ring.{ring, _⊕_, _⊖_, _⊗_, ⊝_, num}
-use Rattle.funding.specs.Minute.{Minute, weightedSum}
+use Rattle.funding.specs.Minute.{weightedSum}
 use Rattle.ledger.specs.declared.Trade.{Trade}
 use Rattle.ledger.specs.declared.Call.{Call}
 use Rattle.ledger.specs.declared.Call.the-variants as call
@@ -17,11 +17,11 @@ use Rattle.ledger.specs.declared.Day.{Day}
 use Rattle.ledger.specs.declared.Figures.{Figures}
 use Rattle.ledger.specs.declared.Book.{Book}
 use Rattle.ledger.specs.Columns.{raise, raiseCount, table}
-use Rattle.ledger.specs.Day.{isFinal, minuteOf}
+use Rattle.ledger.specs.Day.{emptyDay, isFinal, minuteOf}
 use Rattle.ledger.specs.Opening.{fresh}
-use Rattle.ledger.specs.Effects.{figuresAfter, exchanged, counted, posting, cashAfter, effect}
-use Rattle.history.specs.History.{History, Moment, halted, market, minuteMarket, last, closings, today, closedPart, withIf, trades, minuteEnds, fixes, minutes, endsValid, validOf, validMinutes, finalTrades}
-use Rattle.history.specs.Figures.{sumCount, sum, finalMinute, indexOf, indexOn, atFix, previousOf, priceOn, amountOn, at, signed, net, yield, paid, cashOf}
+use Rattle.ledger.specs.Effects.{traded, minuteEnded, figuresAfter, exchanged, counted, posting, cashAfter, effect}
+use Rattle.history.specs.History.{History, halted, market, minuteMarket, last, closings, today, closedPart, withIf, trades, minuteEnds, fixes, minutes, endsValid, validOf, validMinutes, finalTrades}
+use Rattle.history.specs.Figures.{sumCount, sum, finalMinute, indexOf, indexOn, atFix, previousOf, priceOn, lastPrice, amountOn, at, signed, net, yield, paid, cashOf}
 use Rattle.history.proofs.Columns.{table-ext, entry-table, replicate-table, raise-table, raiseCount-table}
 
 -- ---- the book of a history
@@ -71,25 +71,37 @@ unfolding withIf
 if-ap f true x l = refl
 if-ap f false x l = refl
 
--- the minute that ends after h with the index u, and whether it is valid
-abbrev ending : History → ℕ → Moment
-ending h u = record { value = u; before = h }
+module _ (s : ℕ) (h : History) where
+  final-after : (t : Trade) → traded (dayOf s h) t .traded ≡ finalMinute (finalTrades (call.Trade t ∷ h))
+  unfolding finalTrades sumCount
+  final-after t = if-ap finalMinute (isFinal (minutes h) t) t (finalTrades h)
 
-abbrev minuteAt : History → ℕ → Minute
-minuteAt h u = minuteOf (minuteMarket h) (last h) u
+  -- whether the minute that ends with the index u is valid, and the day after it
+  abbrev ends : ℕ → Bool
+  ends u = endsValid (record { value = u; before = h })
 
-valid-after : (h : History) (u : ℕ) → cond (endsValid (ending h u)) (length (validMinutes h) + 1) (length (validMinutes h)) ≡ length (withIf (endsValid (ending h u)) (minuteAt h u) (validMinutes h))
-valid-after h u = ap (λ k. cond (endsValid (ending h u)) k (length (validMinutes h))) (add-one (length (validMinutes h))) ∙ if-ap length (endsValid (ending h u)) (minuteAt h u) (validMinutes h)
+  abbrev ended : ℕ → Day
+  ended u = minuteEnded (dayOf s h) (ends u) u
 
-figures-after : (s : ℕ) (h : History) (c : Call) → figuresAfter (figuresOf s h) c ≡ figuresOf s (c ∷ h)
-unfolding figuresAfter halted market minuteMarket last closings minuteEnds fixes validOf finalTrades sumCount indexOf atFix previousOf weightedSum
-figures-after s h (call.Quote m) = refl
-figures-after s h (call.Trade t) = cc (if-ap finalMinute (isFinal (minutes h) t) t (finalTrades h))
-figures-after s h call.Halt = refl
-figures-after s h call.Resume = refl
-figures-after s h (call.MinuteEnd u) = cc (add-one (minutes h), valid-after h u, if-ap weightedSum (endsValid (ending h u)) (minuteAt h u) (validMinutes h))
-figures-after s h (call.Fix set) = refl
-figures-after s h call.Close = cc (add-one (length (closings h)))
+  valid-after : (u : ℕ) → ended u .valid ≡ length (validMinutes (call.MinuteEnd u ∷ h))
+  unfolding minuteEnds validOf
+  valid-after u =
+      ap (λ k. cond (ends u) k (length (validMinutes h))) (add-one (length (validMinutes h))) ∙ if-ap length (ends u) (minuteOf (minuteMarket h) (last h) u) (validMinutes h)
+
+  weighted-after : (u : ℕ) → ended u .weighted ≡ weightedSum (validMinutes (call.MinuteEnd u ∷ h))
+  unfolding minuteEnds validOf weightedSum
+  weighted-after u = if-ap weightedSum (ends u) (minuteOf (minuteMarket h) (last h) u) (validMinutes h)
+
+  figures-after : (c : Call) → figuresAfter (figuresOf s h) c ≡ figuresOf s (c ∷ h)
+  unfolding figuresAfter halted market minuteMarket last closings minuteEnds fixes finalTrades indexOf atFix previousOf validOf sumCount weightedSum
+  figures-after (call.Quote m) = refl
+  figures-after (call.Trade t) = cc (final-after t)
+  figures-after call.Halt = refl
+  figures-after call.Resume = refl
+  figures-after (call.MinuteEnd u) = cc (add-one (minutes h), valid-after u, weighted-after u)
+  figures-after (call.Fix set) = refl
+  figures-after call.Close =
+      λ i. record { size = s; closed = add-one (length (closings h)) i; halted = halted h; previous = record { price = priceOn h; index = indexOn h }; day = emptyDay }
 
 -- ---- the columns after a trade
 
@@ -135,12 +147,12 @@ cash-closed : (n s : ℕ) (h : History) (j : ℕ) → j < n → cashAfter (bookO
 unfolding closings closedPart previousOf sum
 cash-closed n s h j k =
     cc (entry-table n j (cashOf s h) (pos 0) k, entry-table n j (net h) (pos 0) k, entry-table n j (net (closedPart (closings h))) (pos 0) k, entry-table n j (costOf h) (pos 0) k)
-    ∙ ap (λ z. z +ℤ sum (paid s j) (closings h) +ℤ posting (figuresOf s h) (net h j) (net (closedPart (closings h)) j) (costOf h j)) (gains s (previousOf (closings h) .price) j (trades (closedPart (closings h))))
+    ∙ ap (λ z. z +ℤ sum (paid s j) (closings h) +ℤ posting (figuresOf s h) (net h j) (net (closedPart (closings h)) j) (costOf h j)) (gains s (lastPrice h) j (trades (closedPart (closings h))))
     ∙ ring 9
     (λ n P w m Q v s f a. (m ⊗ Q ⊖ v) ⊗ s ⊕ f ⊕ ((n ⊗ P ⊖ m ⊗ Q ⊖ (w ⊖ v)) ⊗ s ⊕ n ⊗ a ⊗ num 100))
     (λ n P w m Q v s f a. (n ⊗ P ⊖ w) ⊗ s ⊕ (f ⊕ n ⊗ a ⊗ num 100))
     refl
-    (net h j) (pos (priceOn h)) (worth h j) (net (closedPart (closings h)) j) (pos (previousOf (closings h) .price)) (worth (closedPart (closings h)) j) (pos s) (sum (paid s j) (closings h)) (amountOn s h)
+    (net h j) (pos (priceOn h)) (worth h j) (net (closedPart (closings h)) j) (pos (lastPrice h)) (worth (closedPart (closings h)) j) (pos s) (sum (paid s j) (closings h)) (amountOn s h)
     ∙ ap (λ z. z +ℤ (sum (paid s j) (closings h) +ℤ paid s j h)) (sym (gains s (priceOn h) j (trades h)))
 
 cost-closed : (n : ℕ) (h : History) → replicate n (pos 0) ≡ table n (costOf (call.Close ∷ h))

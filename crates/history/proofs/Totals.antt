@@ -6,7 +6,7 @@ use lib.IntN.{pos, negℤ, _+ℤ_, _-ℤ_, _*ℤ_, +ℤ-invr}
 use Rattle.ledger.specs.declared.Trade.{Trade}
 use Rattle.ledger.specs.declared.Call.the-variants as call
 use Rattle.history.specs.History.{History, closings, closedPart, trades}
-use Rattle.history.specs.Figures.{sum, previousOf, amountOn, at, signed, net, yield, paid, cashOf}
+use Rattle.history.specs.Figures.{sum, lastPrice, amountOn, at, signed, net, yield, paid, cashOf}
 use Rattle.history.specs.Demand3.{Every}
 use Rattle.history.proofs.Sums.{overAll, all-add, all-at, scaled-cancels, sum-cancels}
 use Rattle.history.proofs.Accepted.{Accepted, in-range}
@@ -52,7 +52,6 @@ closed-accepted n s (d ∷ ds) e = e .0 .1
 
 pub cash-cancels : (n s : ℕ) (h : History) → Accepted n s h → overAll n (cashOf s h) ≡ pos 0
 cash-cancels n s h a =
-    let P = previousOf (closings h) .price in
     let days = closes-accepted n s h a in
-    all-add n (λ j. sum (yield s P j) (trades (closedPart (closings h)))) (λ j. sum (paid s j) (closings h))
-    ∙ ap₂ _+ℤ_ (yield-cancels n s P (closedPart (closings h)) (closed-accepted n s (closings h) days)) (sum-cancels n (paid s) (closings h) (every-map (day-cancels n s) (closings h) days))
+    all-add n (λ j. sum (yield s (lastPrice h) j) (trades (closedPart (closings h)))) (λ j. sum (paid s j) (closings h))
+    ∙ ap₂ _+ℤ_ (yield-cancels n s (lastPrice h) (closedPart (closings h)) (closed-accepted n s (closings h) days)) (sum-cancels n (paid s) (closings h) (every-map (day-cancels n s) (closings h) days))

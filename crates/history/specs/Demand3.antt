@@ -1,7 +1,11 @@
--- Demand 3. Open a book of n accounts with a size and make any list of calls on it: each is accepted or refused. Take the accepted ones alone.
--- Then every account's cash and position in the book are the figures that specs/Figures.antt works out from these calls, and from the opening's size,
--- without a look at the book. All positions together are zero, and so is all cash. The accepted calls are the closed days and the open day, with
--- nothing left out and nothing counted twice. And every closed day has all of its minute ends and one fix, so that its P and amount are the ones of that fix.
+-- Demand 3 of document 01, as one claim.
+--
+-- Open a book of n accounts with a size, and make any list of calls on it. The book answers each with a refusal number or accepts it. Keep the accepted calls
+-- alone: the history. From the history and the size, and never from the book, specs/Figures.antt works out each account's net position and cash. The claim:
+--   every account's position and cash in the book after the list are those figures;
+--   the positions of all accounts add up to zero, and so does their cash;
+--   the history is its closed days and the open day put together, with no call left out or counted twice;
+--   every closed day has all of its minute ends and one fix, so that "its one accepted fix" names one P and one amount.
 use mathlib.Core.Path.{_≡_}
 use mathlib.Core.List.{List, [], _∷_, _++_, reverse}
 use Prim.Native.Nat.{ℕ, _<_}
@@ -21,25 +25,26 @@ use Rattle.history.specs.Figures.{sum, net, cashOf}
 abbrev pub after : ℕ → ℕ → List Call → Book
 after n s cs = run n (opening n s .book) cs
 
--- the calls among them that returned no refusal number, the latest first
+-- "A call is accepted when it returns no refusal number": the accepted ones among them, the latest first
 abbrev pub history : ℕ → ℕ → List Call → History
 history n s cs = reverse (accepted n (opening n s .book) cs)
 
--- the calls of closed days: for each day its close, and before it the day's other calls
+-- the calls of closed days, the latest first: each day's close, and before it the day's other calls
 unfoldable pub callsOf : List History → History
 callsOf [] = []
 callsOf (d ∷ ds) = call.Close ∷ (today d ++ callsOf ds)
 
--- a day that had all its minute ends, and one fix
+-- a closed day with all of its minute ends, and one fix
 pub record Whole (d : History) : Type 0 where
   pub minute-ends : length (minuteEnds d) ≡ dayLength
   pub one-fix : length (fixes d) ≡ 1
 
+-- P of each element of a list
 abbrev pub Every : {A : Type 0} → (A → Type 0) → List A → Type 0
 Every P [] = Unit {0}
 Every P (x ∷ xs) = P x × Every P xs
 
--- a column added up
+-- the entries of a column, added up
 abbrev pub total : List ℤ → ℤ
 total l = sum (λ z. z) l
 
@@ -51,6 +56,6 @@ pub record Demand3 (n s : ℕ) (cs : List Call) : Type 0 where
   pub calls-of-days : history n s cs ≡ today (history n s cs) ++ callsOf (closings (history n s cs))
   pub closed-days : Every Whole (closings (history n s cs))
 
--- "as one claim over the list": for every number of accounts, every size that the opening accepts and every list of calls
+-- for every number of accounts, every size that the opening accepts and every list of calls: proved in proofs/Demand3.antt
 abbrev pub DemandThree : Type 0
 DemandThree = (n s : ℕ) (cs : List Call) → opening n s .code ≡ 0 → Demand3 n s cs

@@ -1,5 +1,5 @@
 -- Demand 3's figures, from the accepted calls alone: a day's index, P and amount, and an account's position and cash.
--- An open day's figures are asked of the whole history; a closed day's of its history, an element of `closings`.
+-- The open day's figures are those of the whole history, and a closed day's those of its element of `closings`.
 use mathlib.Core.Bool.{cond}
 use mathlib.Core.List.{List, [], _∷_}
 use Prim.Native.Nat.{ℕ, _+_, _*_}
@@ -41,7 +41,7 @@ indexOn h = indexOf (minuteEnds h)
 abbrev pub priceAt : Previous → Moment → ℕ
 priceAt previous fix = settlementPrice (fix .value) (finalMinute (finalTrades (fix .before))) (indexOn (fix .before)) previous
 
--- what is said of a day's fix, or `none` before it
+-- f of the day's fix, `none` before it
 unfoldable pub atFix : {A : Type 0} → A → (Moment → A) → List Moment → A
 atFix none f [] = none
 atFix none f (x ∷ xs) = f x
@@ -51,8 +51,13 @@ unfoldable pub previousOf : List History → Previous
 previousOf [] = record { price = 0; index = 0 }
 previousOf (d ∷ ds) = record { price = atFix 0 (priceAt (previousOf ds)) (fixes d); index = indexOn d }
 
+-- P of a day; 0 before its fix
 abbrev pub priceOn : History → ℕ
 priceOn h = atFix 0 (priceAt (previousOf (closings h))) (fixes h)
+
+-- the "last closed P"
+abbrev pub lastPrice : History → ℕ
+lastPrice h = previousOf (closings h) .price
 
 -- "k counts the day's valid minutes, S adds i × basis for the i-th of them"; their rate, clamped
 abbrev pub rateOn : History → ℤ
@@ -62,12 +67,13 @@ rateOn h = clampedTo (termsOn (length (closings h))) (rateOf (length (validMinut
 abbrev pub amountAt : ℕ → Previous → Moment → ℤ
 amountAt s previous fix = amountOf (tieOn (length (closings (fix .before)))) (rateOn (fix .before)) (priceAt previous fix) s
 
+-- the amount of a day; 0 before its fix
 abbrev pub amountOn : ℕ → History → ℤ
 amountOn s h = atFix (pos 0) (amountAt s (previousOf (closings h))) (fixes h)
 
 -- ---- an account
 
--- z for the account i, and 0 for any other
+-- z where the account j is i, and 0 for any other
 abbrev pub at : ℕ → ℕ → ℤ → ℤ
 at i j z = cond (eqb i j) z (pos 0)
 
@@ -83,10 +89,10 @@ net h j = sum (signed j) (trades h)
 abbrev pub yield : ℕ → ℕ → ℕ → Trade → ℤ
 yield s P j t = signed j t *ℤ (pos P -ℤ pos (t .price)) *ℤ pos s
 
--- each closed day's amount for the net position at its close: "A cent of amount counts as 100 in cash"
+-- a closed day's amount, for the net position at its close: "A cent of amount counts as 100 in cash"
 abbrev pub paid : ℕ → ℕ → History → ℤ
 paid s j d = net d j *ℤ amountOn s d *ℤ pos 100
 
--- "Trades of an open day yield nothing yet; without a closed day all cash is 0"
+-- what the trades of the closed days yield, and what the closed days pay: "Trades of an open day yield nothing yet; without a closed day all cash is 0"
 abbrev pub cashOf : ℕ → History → ℕ → ℤ
-cashOf s h j = sum (yield s (previousOf (closings h) .price) j) (trades (closedPart (closings h))) +ℤ sum (paid s j) (closings h)
+cashOf s h j = sum (yield s (lastPrice h) j) (trades (closedPart (closings h))) +ℤ sum (paid s j) (closings h)
