@@ -72,7 +72,13 @@ pub record Ran (n s : ℕ) (b : Book) (h : History) (cs : List Call) : Type 0 wh
   pub all-accepted : Accepted n s (reverseAux (accepted n b cs) h)
 
 -- the call c first, accepted or not, where `rest` says what the calls cs after it do
-ran-after : (n s : ℕ) (h : History) (c : Call) (cs : List Call) (x : Bool) → (x ≡ true → refusal n (bookOf n s h) c ≡ 0) → ((h : History) → Accepted n s h → Ran n s (bookOf n s h) h cs) → Accepted n s h → let b = cond x (effect n (bookOf n s h) c) (bookOf n s h) in let h′ = reverseAux (keepIf x c (accepted n b cs)) h in (run n b cs ≡ bookOf n s h′) × Accepted n s h′
+ran-after : (n s : ℕ) (h : History) (c : Call) (cs : List Call) (x : Bool)
+    → (x ≡ true → refusal n (bookOf n s h) c ≡ 0)
+    → ((h : History) → Accepted n s h → Ran n s (bookOf n s h) h cs)
+    → Accepted n s h
+    → let b = cond x (effect n (bookOf n s h) c) (bookOf n s h) in
+    let h′ = reverseAux (keepIf x c (accepted n b cs)) h in
+    (run n b cs ≡ bookOf n s h′) × Accepted n s h′
 ran-after n s h c cs true e rest a =
     let r = subst (λ (b : Book). Ran n s b (c ∷ h) cs) (sym (effect-is n s h c)) (rest (c ∷ h) (allowed n (bookOf n s h) c (e refl), a)) in
     (r .book-is, r .all-accepted)

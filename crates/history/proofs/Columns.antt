@@ -29,7 +29,8 @@ module _ {A : Type 0} where
   replicate-table (suc n) x = ap (λ (l : List A). x ∷ l) (replicate-table n x)
 
   -- the entry i written anew from what it was: g is the column after it
-  pub write-table : (n i : ℕ) (d : A) (u : A → A) (f g : ℕ → A) → g i ≡ u (f i) → ((j : ℕ) → j ≢ i → g j ≡ f j) → set (table n f) i (u (getD (table n f) i d)) ≡ table n g
+  pub write-table : (n i : ℕ) (d : A) (u : A → A) (f g : ℕ → A) → g i ≡ u (f i) → ((j : ℕ) → j ≢ i → g j ≡ f j)
+      → set (table n f) i (u (getD (table n f) i d)) ≡ table n g
   unfolding table
   write-table zero i d u f g same other = refl
   write-table (suc n) zero d u f g same other =
@@ -55,8 +56,10 @@ module _ {A : Type 0} where
 -- an entry raised
 pub raise-table : (n i : ℕ) (z : ℤ) (f : ℕ → ℤ) → raise (table n f) i z ≡ table n (λ j. f j +ℤ cond (eqb i j) z (pos 0))
 raise-table n i z f =
-    write-table n i (pos 0) (λ x. x +ℤ z) f (λ j. f j +ℤ cond (eqb i j) z (pos 0)) (ap (λ x. f i +ℤ x) (at-same i z (pos 0))) (λ j k. ap (λ x. f j +ℤ x) (at-other i j z (pos 0) k) ∙ +ℤ-idr (f j))
+    write-table n i (pos 0) (λ x. x +ℤ z) f (λ j. f j +ℤ cond (eqb i j) z (pos 0))
+    (ap (λ x. f i +ℤ x) (at-same i z (pos 0))) (λ j k. ap (λ x. f j +ℤ x) (at-other i j z (pos 0) k) ∙ +ℤ-idr (f j))
 
 pub raiseCount-table : (n i k : ℕ) (f : ℕ → ℕ) → raiseCount (table n f) i k ≡ table n (λ j. f j + cond (eqb i j) k 0)
 raiseCount-table n i k f =
-    write-table n i 0 (λ x. x + k) f (λ j. f j + cond (eqb i j) k 0) (ap (λ x. f i + x) (at-same i k 0)) (λ j h. ap (λ x. f j + x) (at-other i j k 0 h) ∙ add-zero (f j))
+    write-table n i 0 (λ x. x + k) f (λ j. f j + cond (eqb i j) k 0)
+    (ap (λ x. f i + x) (at-same i k 0)) (λ j h. ap (λ x. f j + x) (at-other i j k 0 h) ∙ add-zero (f j))

@@ -82,7 +82,8 @@ figures-hold n b e = and-yes (figuresHold (b .figures)) (allBelow n (accountOf b
 
 all-minutes : (n s : ℕ) (d : History) → Allowed n (bookOf n s d) call.Close → minutes d ≡ dayLength
 all-minutes n s d a =
-    eqb-true (minutes d) dayLength (go (isGiven (priceOn d)) (eqb (minutes d) dayLength) (fixed n s d a) (fix-holds (dayOf s d) (day-holds (figuresOf s d) (figures-hold n (bookOf n s d) (a .limits)))))
+    eqb-true (minutes d) dayLength
+    (go (isGiven (priceOn d)) (eqb (minutes d) dayLength) (fixed n s d a) (fix-holds (dayOf s d) (day-holds (figuresOf s d) (figures-hold n (bookOf n s d) (a .limits)))))
   where
     go : (x y : Bool) → x ≡ true → (not x || y) ≡ true → y ≡ true
     go true y e f = f

@@ -43,16 +43,22 @@ dayOf s h = record {
 abbrev pub figuresOf : ℕ → History → Figures
 figuresOf s h = record { size = s; closed = length (closings h); halted = halted h; previous = previousOf (closings h); day = dayOf s h }
 
--- an account's signed quantity × price, over all trades and over today's
+-- account j's signed quantity × price of a trade, of all trades, and of today's
+abbrev pub priced : ℕ → Trade → ℤ
+priced j t = signed j t *ℤ pos (t .price)
+
 abbrev pub worth : History → ℕ → ℤ
-worth h j = sum (λ t. signed j t *ℤ pos (t .price)) (trades h)
+worth h j = sum (priced j) (trades h)
 
 abbrev pub costOf : History → ℕ → ℤ
 costOf h j = worth h j -ℤ worth (closedPart (closings h)) j
 
--- an account's contracts bought plus sold today
+-- account j's contracts bought plus sold in a trade, and today
+abbrev pub turnover : ℕ → Trade → ℕ
+turnover j t = cond (eqb (t .buyer) j) (t .quantity) 0 + cond (eqb (t .seller) j) (t .quantity) 0
+
 abbrev pub volumeOf : History → ℕ → ℕ
-volumeOf h j = sumCount (λ t. cond (eqb (t .buyer) j) (t .quantity) 0 + cond (eqb (t .seller) j) (t .quantity) 0) (trades (today h))
+volumeOf h j = sumCount (turnover j) (trades (today h))
 
 abbrev pub bookOf : ℕ → ℕ → History → Book
 bookOf n s h = record {
@@ -105,19 +111,25 @@ module _ (s : ℕ) (h : History) where
 
 -- ---- the columns after a trade
 
-exchanged-table : (n : ℕ) (f : ℕ → ℤ) (t : Trade) (a : ℕ) → exchanged (table n f) t a ≡ table n (λ j. f j +ℤ (at (t .buyer) j (pos a) +ℤ at (t .seller) j (negℤ (pos a))))
+-- what a trade moves to the buyer from the seller, at the account j
+abbrev moved : Trade → ℕ → ℕ → ℤ
+moved t a j = at (t .buyer) j (pos a) +ℤ at (t .seller) j (negℤ (pos a))
+
+exchanged-table : (n : ℕ) (f : ℕ → ℤ) (t : Trade) (a : ℕ) → exchanged (table n f) t a ≡ table n (λ j. f j +ℤ moved t a j)
 exchanged-table n f t a =
-    ap (λ (l : List ℤ). raise l (t .seller) (negℤ (pos a))) (raise-table n (t .buyer) (pos a) f) ∙ raise-table n (t .seller) (negℤ (pos a)) (λ j. f j +ℤ at (t .buyer) j (pos a))
+    ap (λ (l : List ℤ). raise l (t .seller) (negℤ (pos a))) (raise-table n (t .buyer) (pos a) f)
+    ∙ raise-table n (t .seller) (negℤ (pos a)) (λ j. f j +ℤ at (t .buyer) j (pos a))
     ∙ table-ext n _ _ (λ j k. +ℤ-assoc (f j) (at (t .buyer) j (pos a)) (at (t .seller) j (negℤ (pos a))))
 
-counted-table : (n : ℕ) (f : ℕ → ℕ) (t : Trade) → counted (table n f) t ≡ table n (λ j. f j + (cond (eqb (t .buyer) j) (t .quantity) 0 + cond (eqb (t .seller) j) (t .quantity) 0))
+counted-table : (n : ℕ) (f : ℕ → ℕ) (t : Trade) → counted (table n f) t ≡ table n (λ j. f j + turnover j t)
 counted-table n f t =
-    ap (λ (l : List ℕ). raiseCount l (t .seller) (t .quantity)) (raiseCount-table n (t .buyer) (t .quantity) f) ∙ raiseCount-table n (t .seller) (t .quantity) (λ j. f j + cond (eqb (t .buyer) j) (t .quantity) 0)
+    ap (λ (l : List ℕ). raiseCount l (t .seller) (t .quantity)) (raiseCount-table n (t .buyer) (t .quantity) f)
+    ∙ raiseCount-table n (t .seller) (t .quantity) (λ j. f j + cond (eqb (t .buyer) j) (t .quantity) 0)
     ∙ table-ext n _ _ (λ j k. add-assoc (f j) (cond (eqb (t .buyer) j) (t .quantity) 0) (cond (eqb (t .seller) j) (t .quantity) 0))
 
 -- quantity × price, for the buyer and the seller
-signed-worth : (j : ℕ) (t : Trade) → signed j t *ℤ pos (t .price) ≡ at (t .buyer) j (pos (t .quantity * t .price)) +ℤ at (t .seller) j (negℤ (pos (t .quantity * t .price)))
-signed-worth j t = go (eqb (t .buyer) j) (eqb (t .seller) j) (pos (t .quantity)) (pos (t .price))
+priced-moved : (j : ℕ) (t : Trade) → priced j t ≡ moved t (t .quantity * t .price) j
+priced-moved j t = go (eqb (t .buyer) j) (eqb (t .seller) j) (pos (t .quantity)) (pos (t .price))
   where
     go : (x y : Bool) (q p : ℤ) → (cond x q (pos 0) +ℤ cond y (negℤ q) (pos 0)) *ℤ p ≡ cond x (q *ℤ p) (pos 0) +ℤ cond y (negℤ (q *ℤ p)) (pos 0)
     go true true = ring 2 (λ q p. (q ⊕ ⊝ q) ⊗ p) (λ q p. q ⊗ p ⊕ ⊝ (q ⊗ p)) refl
@@ -129,31 +141,40 @@ cost-traded : (n : ℕ) (h : History) (t : Trade) → exchanged (table n (costOf
 unfolding closings trades sum
 cost-traded n h t =
     exchanged-table n (costOf h) t (t .quantity * t .price)
-    ∙ table-ext n _ _ (λ j k. ap (λ z. costOf h j +ℤ z) (sym (signed-worth j t)) ∙ ring 3 (λ w v x. w ⊖ v ⊕ x) (λ w v x. w ⊕ x ⊖ v) refl (worth h j) (worth (closedPart (closings h)) j) (signed j t *ℤ pos (t .price)))
+    ∙ table-ext n _ _ (λ j k. ap (λ z. costOf h j +ℤ z) (sym (priced-moved j t)) ∙ regroup (worth h j) (worth (closedPart (closings h)) j) (priced j t))
+  where
+    regroup : (w v x : ℤ) → w -ℤ v +ℤ x ≡ w +ℤ x -ℤ v
+    regroup = ring 3 (λ w v x. w ⊖ v ⊕ x) (λ w v x. w ⊕ x ⊖ v) refl
 
 -- ---- the columns after a close
 
 -- gains against the price P are (net × P − worth) × size
-gains : (s P j : ℕ) (ts : List Trade) → sum (yield s P j) ts ≡ (sum (signed j) ts *ℤ pos P -ℤ sum (λ t. signed j t *ℤ pos (t .price)) ts) *ℤ pos s
+gains : (s P j : ℕ) (ts : List Trade) → sum (yield s P j) ts ≡ (sum (signed j) ts *ℤ pos P -ℤ sum (priced j) ts) *ℤ pos s
 unfolding sum
 gains s P j [] = ring 2 (λ P s. num 0) (λ P s. (num 0 ⊗ P ⊖ num 0) ⊗ s) refl (pos P) (pos s)
-gains s P j (t ∷ ts) =
-    ap (λ z. z +ℤ yield s P j t) (gains s P j ts)
-    ∙ ring 6 (λ n w q p P s. (n ⊗ P ⊖ w) ⊗ s ⊕ q ⊗ (P ⊖ p) ⊗ s) (λ n w q p P s. ((n ⊕ q) ⊗ P ⊖ (w ⊕ q ⊗ p)) ⊗ s) refl
-    (sum (signed j) ts) (sum (λ t. signed j t *ℤ pos (t .price)) ts) (signed j t) (pos (t .price)) (pos P) (pos s)
+gains s P j (t ∷ ts) = ap (λ z. z +ℤ yield s P j t) (gains s P j ts) ∙ regroup (sum (signed j) ts) (sum (priced j) ts) (signed j t) (pos (t .price)) (pos P) (pos s)
+  where
+    regroup : (n w q p P s : ℤ) → (n *ℤ P -ℤ w) *ℤ s +ℤ q *ℤ (P -ℤ p) *ℤ s ≡ ((n +ℤ q) *ℤ P -ℤ (w +ℤ q *ℤ p)) *ℤ s
+    regroup = ring 6 (λ n w q p P s. (n ⊗ P ⊖ w) ⊗ s ⊕ q ⊗ (P ⊖ p) ⊗ s) (λ n w q p P s. ((n ⊕ q) ⊗ P ⊖ (w ⊕ q ⊗ p)) ⊗ s) refl
 
 -- what the account j had, what the close of h posts to it, and what it has then
 cash-closed : (n s : ℕ) (h : History) (j : ℕ) → j < n → cashAfter (bookOf n s h) j ≡ cashOf s (call.Close ∷ h) j
 unfolding closings closedPart previousOf sum
 cash-closed n s h j k =
-    cc (entry-table n j (cashOf s h) (pos 0) k, entry-table n j (net h) (pos 0) k, entry-table n j (net (closedPart (closings h))) (pos 0) k, entry-table n j (costOf h) (pos 0) k)
-    ∙ ap (λ z. z +ℤ sum (paid s j) (closings h) +ℤ posting (figuresOf s h) (net h j) (net (closedPart (closings h)) j) (costOf h j)) (gains s (lastPrice h) j (trades (closedPart (closings h))))
-    ∙ ring 9
-    (λ n P w m Q v s f a. (m ⊗ Q ⊖ v) ⊗ s ⊕ f ⊕ ((n ⊗ P ⊖ m ⊗ Q ⊖ (w ⊖ v)) ⊗ s ⊕ n ⊗ a ⊗ num 100))
-    (λ n P w m Q v s f a. (n ⊗ P ⊖ w) ⊗ s ⊕ (f ⊕ n ⊗ a ⊗ num 100))
-    refl
-    (net h j) (pos (priceOn h)) (worth h j) (net (closedPart (closings h)) j) (pos (lastPrice h)) (worth (closedPart (closings h)) j) (pos s) (sum (paid s j) (closings h)) (amountOn s h)
-    ∙ ap (λ z. z +ℤ (sum (paid s j) (closings h) +ℤ paid s j h)) (sym (gains s (priceOn h) j (trades h)))
+    let before = closedPart (closings h) in
+    let paidBefore = sum (paid s j) (closings h) in
+    cc (entry-table n j (cashOf s h) (pos 0) k, entry-table n j (net h) (pos 0) k, entry-table n j (net before) (pos 0) k, entry-table n j (costOf h) (pos 0) k)
+    ∙ ap (λ z. z +ℤ paidBefore +ℤ posting (figuresOf s h) (net h j) (net before j) (costOf h j)) (gains s (lastPrice h) j (trades before))
+    ∙ telescope (net h j) (pos (priceOn h)) (worth h j) (net before j) (pos (lastPrice h)) (worth before j) (pos s) paidBefore (amountOn s h)
+    ∙ ap (λ z. z +ℤ (paidBefore +ℤ paid s j h)) (sym (gains s (priceOn h) j (trades h)))
+  where
+    -- n, P, w now, and m, Q, v at the close before
+    telescope : (n P w m Q v s f a : ℤ)
+        → (m *ℤ Q -ℤ v) *ℤ s +ℤ f +ℤ ((n *ℤ P -ℤ m *ℤ Q -ℤ (w -ℤ v)) *ℤ s +ℤ n *ℤ a *ℤ pos 100) ≡ (n *ℤ P -ℤ w) *ℤ s +ℤ (f +ℤ n *ℤ a *ℤ pos 100)
+    telescope = ring 9
+        (λ n P w m Q v s f a. (m ⊗ Q ⊖ v) ⊗ s ⊕ f ⊕ ((n ⊗ P ⊖ m ⊗ Q ⊖ (w ⊖ v)) ⊗ s ⊕ n ⊗ a ⊗ num 100))
+        (λ n P w m Q v s f a. (n ⊗ P ⊖ w) ⊗ s ⊕ (f ⊕ n ⊗ a ⊗ num 100))
+        refl
 
 cost-closed : (n : ℕ) (h : History) → replicate n (pos 0) ≡ table n (costOf (call.Close ∷ h))
 unfolding closings closedPart trades
@@ -169,7 +190,8 @@ effect-is n s h call.Halt = cc (figures-after s h call.Halt)
 effect-is n s h call.Resume = cc (figures-after s h call.Resume)
 effect-is n s h (call.MinuteEnd u) = cc (figures-after s h (call.MinuteEnd u))
 effect-is n s h (call.Fix set) = cc (figures-after s h (call.Fix set))
-effect-is n s h call.Close = cc (figures-after s h call.Close, cost-closed n h, replicate-table {A = ℕ} n 0, table-ext n (cashAfter (bookOf n s h)) (cashOf s (call.Close ∷ h)) (cash-closed n s h))
+effect-is n s h call.Close =
+    cc (figures-after s h call.Close, cost-closed n h, replicate-table {A = ℕ} n 0, table-ext n (cashAfter (bookOf n s h)) (cashOf s (call.Close ∷ h)) (cash-closed n s h))
 
 pub fresh-is : (n s : ℕ) → fresh n s ≡ bookOf n s []
 unfolding halted market minuteMarket last closings today closedPart trades minuteEnds fixes validOf finalTrades sumCount sum indexOf atFix previousOf weightedSum

@@ -41,9 +41,12 @@ pub all-at : (n i : ℕ) (z : ℤ) → i < n → overAll n (λ j. at i j z) ≡ 
 unfolding sum table
 all-at zero i z h = absurd (not-suc-le-zero h)
 all-at (suc n) zero z h =
-    ap₂ _+ℤ_ (ap total (table-ext n (λ j. at 0 (suc j) z) (λ j. pos 0) (λ j k. at-other 0 (suc j) z (pos 0) (omega arith))) ∙ all-zero n) (at-same 0 z (pos 0)) ∙ +ℤ-idl z
+    ap₂ _+ℤ_ (ap total (table-ext n (λ j. at 0 (suc j) z) (λ j. pos 0) (λ j k. at-other 0 (suc j) z (pos 0) (omega arith))) ∙ all-zero n) (at-same 0 z (pos 0))
+    ∙ +ℤ-idl z
 all-at (suc n) (suc i) z h =
-    ap₂ _+ℤ_ (ap total (table-ext n (λ j. at (suc i) (suc j) z) (λ j. at i j z) (λ j k. ap (λ t. cond t z (pos 0)) (eqb·suc-suc i j))) ∙ all-at n i z (le-of-suc-le-suc h)) (at-other (suc i) 0 z (pos 0) (omega arith))
+    ap₂ _+ℤ_
+    (ap total (table-ext n (λ j. at (suc i) (suc j) z) (λ j. at i j z) (λ j k. ap (λ t. cond t z (pos 0)) (eqb·suc-suc i j))) ∙ all-at n i z (le-of-suc-le-suc h))
+    (at-other (suc i) 0 z (pos 0) (omega arith))
     ∙ +ℤ-idr z
 
 -- ---- what cancels

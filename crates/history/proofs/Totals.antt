@@ -38,8 +38,10 @@ net-cancels n s h a = sum-cancels n signed (trades h) (trades-cancel n s h a)
 
 -- what the trades of h yield against the price P
 yield-cancels : (n s P : ℕ) (h : History) → Accepted n s h → overAll n (λ j. sum (yield s P j) (trades h)) ≡ pos 0
-yield-cancels n s P h a =
-    sum-cancels n (yield s P) (trades h) (every-map (λ t e. scaled-cancels n (λ j. signed j t *ℤ (pos P -ℤ pos (t .price))) (pos s) (scaled-cancels n (λ j. signed j t) (pos P -ℤ pos (t .price)) e)) (trades h) (trades-cancel n s h a))
+yield-cancels n s P h a = sum-cancels n (yield s P) (trades h) (every-map each (trades h) (trades-cancel n s h a))
+  where
+    each : (t : Trade) → overAll n (λ j. signed j t) ≡ pos 0 → overAll n (λ j. yield s P j t) ≡ pos 0
+    each t e = scaled-cancels n (λ j. signed j t *ℤ (pos P -ℤ pos (t .price))) (pos s) (scaled-cancels n (λ j. signed j t) (pos P -ℤ pos (t .price)) e)
 
 -- what a closed day pays
 day-cancels : (n s : ℕ) (d : History) → Accepted n s (call.Close ∷ d) → overAll n (λ j. paid s j d) ≡ pos 0
@@ -54,4 +56,5 @@ pub cash-cancels : (n s : ℕ) (h : History) → Accepted n s h → overAll n (c
 cash-cancels n s h a =
     let days = closes-accepted n s h a in
     all-add n (λ j. sum (yield s (lastPrice h) j) (trades (closedPart (closings h)))) (λ j. sum (paid s j) (closings h))
-    ∙ ap₂ _+ℤ_ (yield-cancels n s (lastPrice h) (closedPart (closings h)) (closed-accepted n s (closings h) days)) (sum-cancels n (paid s) (closings h) (every-map (day-cancels n s) (closings h) days))
+    ∙ ap₂ _+ℤ_ (yield-cancels n s (lastPrice h) (closedPart (closings h)) (closed-accepted n s (closings h) days))
+    (sum-cancels n (paid s) (closings h) (every-map (day-cancels n s) (closings h) days))
