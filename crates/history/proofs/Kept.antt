@@ -159,7 +159,7 @@ gains s P j (t ∷ ts) = ap (λ z. z +ℤ yield s P j t) (gains s P j ts) ∙ re
 
 -- what the account j had, what the close of h posts to it, and what it has then
 cash-closed : (n s : ℕ) (h : History) (j : ℕ) → j < n → cashAfter (bookOf n s h) j ≡ cashOf s (call.Close ∷ h) j
-unfolding closings closedPart previousOf sum
+unfolding closings closedPart previousOf trades sum
 cash-closed n s h j k =
     let before = closedPart (closings h) in
     let paidBefore = sum (paid s j) (closings h) in
