@@ -1,0 +1,3 @@
+pub mod History
+pub mod Figures
+pub mod Demand3
