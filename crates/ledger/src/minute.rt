@@ -25,12 +25,13 @@ impl Day {
         requires { ⌜ Endable self valid index ⌝ }
         ensures { λ r. ⌜ r ≡ weightedAfter self valid index ⌝ }
     {
-        if !valid {
-            return self.weighted;
+        if valid {
+            let futures = funding::futures_price(self.minute.bid, self.minute.offer, self.last);
+            let basis = funding::basis(futures, index);
+            funding::accrue(self.weighted, self.valid, basis)
+        } else {
+            self.weighted
         }
-        let futures = funding::futures_price(self.minute.bid, self.minute.offer, self.last);
-        let basis = funding::basis(futures, index);
-        funding::accrue(self.weighted, self.valid, basis)
     }
 
     fn valid_after(self, valid: bool) -> u32

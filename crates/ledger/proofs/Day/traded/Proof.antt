@@ -1,43 +1,49 @@
+-- `ledger::Day::traded` meets its contract: n and the gross have room. Assumes nothing.
+use mathlib.Core.Path.{_≡_, sym, _∙_, ap}
+use mathlib.Core.Bool.{_&&_, true, false}
+use lib.Dec.{eqb}
 use borrow.Author.Needs.{needs}
+use Rattle.ledger.specs.Day.{isFinal}
 use Rattle.ledger.proofs.Day.traded.Statement.{statement}
 use Rattle.ledger.proofs.Day.traded.Tie as tie
-use Rattle.ledger.proofs.Day.traded.Reads as reads
-use Rattle.ledger.proofs.Day.traded.Lts as lts
-use Rattle.ledger.proofs.Day.is_in_last_minute.Reads as is-in-last-minute-reads
 
--- src/trading.rt:124:12
+-- whether the trade counts towards the settlement price
+final : (c : tie.After-is-in-last-minute) {v : _} → (c .is-in-last-minute .result && eqb (c .before .args .t .kind) 0) ≡ v → isFinal (c .before .args .self .minutes) (c .before .args .t) ≡ v
+final c e = ap (λ x. x && eqb (c .before .args .t .kind) 0) (sym (c .is-in-last-minute .ensures)) ∙ e
+
 is-in-last-minute-requires : tie.Need-is-in-last-minute-requires
 is-in-last-minute-requires c κs = search needs
 
--- src/trading.rt:126:28
 add-t8 : tie.Need-add-t8
 add-t8 c = search needs
 
--- src/trading.rt:127:44
 cast-t9 : tie.Need-cast-t9
 cast-t9 c = search needs
 
--- src/trading.rt:127:64
 cast-t10 : tie.Need-cast-t10
 cast-t10 c = search needs
 
--- src/trading.rt:127:44
 mul-t11 : tie.Need-mul-t11
 mul-t11 c = search needs
 
--- src/trading.rt:127:24
 add-t12 : tie.Need-add-t12
 add-t12 c = search needs
 
--- src/trading.rt:118:5
 returns : tie.Need-returns
-returns c = ?
+returns c = rw (final (c .before .before .before .before .before .before .before) (c .before .before .before .before .before .if1 .taken))
 
--- src/trading.rt:118:5
 returns-2 : tie.Need-returns-2
-returns-2 c = ?
+returns-2 c = rw (final (c .before .before) (c .if1 .left))
 
 pub traded-spec : {M : Type 1} → statement M
 traded-spec =
     tie.close
-    (tie.spec is-in-last-minute-requires add-t8 cast-t9 cast-t10 mul-t11 add-t12 returns returns-2)
+    (tie.spec
+    is-in-last-minute-requires
+    add-t8
+    cast-t9
+    cast-t10
+    mul-t11
+    add-t12
+    returns
+    returns-2)

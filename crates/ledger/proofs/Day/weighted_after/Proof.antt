@@ -1,32 +1,50 @@
+-- `ledger::Day::weighted_after` meets its contract: a valid minute accrues, and another changes nothing. Assumes nothing.
+use mathlib.Core.Path.{_≡_, _∙_, ap}
+use mir.Syntax.{w64}
+use mir.Val.{SFits, toZ, ofZ}
+use mir.Facts.{toZ-ofZ}
 use borrow.Author.Needs.{needs}
+use Rattle.funding.specs.Minute.{basisOf}
+use Rattle.ledger.specs.Day.{minuteOf}
 use Rattle.ledger.proofs.Day.weighted_after.Statement.{statement}
 use Rattle.ledger.proofs.Day.weighted_after.Tie as tie
-use Rattle.ledger.proofs.Day.weighted_after.Reads as reads
-use Rattle.ledger.proofs.Day.weighted_after.Lts as lts
-use Rattle.funding.proofs.accrue.Reads as accrue-reads
-use Rattle.funding.proofs.basis.Reads as basis-reads
-use Rattle.funding.proofs.futures_price.Reads as futures-price-reads
 
--- src/minute.rt:29:13
-returns : tie.Need-returns
-returns c = ?
+sum-back : (s : tie.Start) → toZ w64 (ofZ w64 (s .args .self .weighted)) ≡ s .args .self .weighted
+sum-back s = let f : SFits w64 (s .args .self .weighted) = search needs in toZ-ofZ f
 
--- src/minute.rt:31:13
+-- the basis that is handed on
+basis-is : (c : tie.After-basis) → let s = c .before .before .before in
+    toZ w64 (ofZ w64 (c .basis .result)) ≡ basisOf (minuteOf (s .args .self .minute) (s .args .self .last) (s .args .index) .F) (s .args .index)
+basis-is c =
+    let s = c .before .before .before in
+    toZ-ofZ (record { sfits = c .basis .ok }) ∙ c .basis .ensures ∙ ap (λ F. basisOf F (s .args .index)) (c .before .futures-price .ensures)
+
 futures-price-requires : tie.Need-futures-price-requires
 futures-price-requires c κs = search needs
 
--- src/minute.rt:32:13
 basis-requires : tie.Need-basis-requires
-basis-requires c κs = ?
+basis-requires c κs = c .before .before .pre .given (c .before .if1 .taken)
 
--- src/minute.rt:33:9
 accrue-requires : tie.Need-accrue-requires
-accrue-requires c κs = ?
+accrue-requires c κs =
+    let s = c .before .before .before .before in
+    let d = s .args .self in
+    rw (sum-back s, basis-is (c .before)) (s .pre .accrues (c .before .before .before .if1 .taken))
 
--- src/minute.rt:24:5
+returns : tie.Need-returns
+returns c =
+    let s = c .before .before .before .before .before in
+    toZ-ofZ (record { sfits = c .accrue .ok }) ∙ c .accrue .ensures ∙ rw (sum-back s, basis-is (c .before .before), c .before .before .before .before .if1 .taken)
+
 returns-2 : tie.Need-returns-2
-returns-2 c = ?
+returns-2 c = rw (sum-back (c .before .before), c .before .if1 .left)
 
 pub weighted-after-spec : {M : Type 1} → statement M
 weighted-after-spec =
-    tie.close (tie.spec returns futures-price-requires basis-requires accrue-requires returns-2)
+    tie.close
+    (tie.spec
+    futures-price-requires
+    basis-requires
+    accrue-requires
+    returns
+    returns-2)

@@ -1,54 +1,61 @@
+-- `ledger::Figures::fix` meets its contract: the refusals in their order, or the fixed day. Assumes nothing.
+use mathlib.Core.Path.{_≡_, _∙_}
+use mir.Syntax.{w64}
+use mir.Val.{SFits}
+use mir.Facts.{toZ-ofZ}
 use borrow.Author.Needs.{needs}
+use Rattle.ledger.specs.Columns.{accounts}
+use Rattle.ledger.specs.Effects.{figuresAfter, fixingOf}
+use Rattle.ledger.specs.Inner.{figuresRefusal}
+use Rattle.ledger.specs.declared.Call.the-variants as call
+use Rattle.ledger.proofs.Outcomes.{refused-is, accepted-is}
 use Rattle.ledger.proofs.Figures.fix.Statement.{statement}
 use Rattle.ledger.proofs.Figures.fix.Tie as tie
-use Rattle.ledger.proofs.Figures.fix.Reads as reads
-use Rattle.ledger.proofs.Figures.fix.Lts as lts
-use Rattle.ledger.proofs.Day.fixed.Reads as fixed-reads
-use Rattle.ledger.proofs.Figures.fixing.Reads as fixing-reads
-use Rattle.ledger.proofs.Figures.is_full.Reads as is-full-reads
-use Rattle.ledger.proofs.Figures.refused.Reads as refused-reads
-use Rattle.ledger.proofs.limits.none_or_price.Reads as none-or-price-reads
-use Rattle.ledger.proofs.quoting.or_else.Reads as or-else-reads
 
--- src/fix.rt:50:13
+-- the number
+code-is : (c : tie.After-or-else3) → let a = c .before .before .before .before .before .before .before .before .before .before .args in c .or-else3 .result ≡ figuresRefusal accounts (a .self) (call.Fix (a .set))
+code-is c =
+    c .or-else3 .ensures
+    ∙ rw (c .before .or-else2 .ensures, c .before .before .or-else .ensures, c .before .before .before .before .none-or-price .ensures, c .before .before .before .before .before .before .before .is-full .ensures, c .before .before .before .before .before .before .before .before .fixing .ensures)
+
 fixing-requires : tie.Need-fixing-requires
 fixing-requires c κs = search needs
 
--- src/fix.rt:51:21
 is-full-requires : tie.Need-is-full-requires
 is-full-requires c κs = search needs
 
--- src/fix.rt:52:28
 none-or-price-requires : tie.Need-none-or-price-requires
 none-or-price-requires c κs = search needs
 
--- src/fix.rt:52:51
 or-else-requires : tie.Need-or-else-requires
 or-else-requires c κs = search needs
 
--- src/fix.rt:52:13
 or-else-requires-2 : tie.Need-or-else-requires-2
 or-else-requires-2 c κs = search needs
 
--- src/fix.rt:53:13
 or-else-requires-3 : tie.Need-or-else-requires-3
 or-else-requires-3 c κs = search needs
 
--- src/fix.rt:55:13
 refused-requires : tie.Need-refused-requires
 refused-requires c κs = search needs
 
--- src/fix.rt:55:13
 returns : tie.Need-returns
-returns c = ?
+returns c =
+    let t = c .before in
+    let a = t .before .before .before .before .before .before .before .before .before .before .before .args in
+    refused-is (a .self) (call.Fix (a .set)) (code-is (t .before)) (t .if1 .taken) (c .refused .ensures)
 
--- src/fix.rt:58:9
 fixed-requires : tie.Need-fixed-requires
 fixed-requires c κs = search needs
 
--- src/fix.rt:45:5
 returns-2 : tie.Need-returns-2
-returns-2 c = ?
+unfolding figuresAfter fixingOf
+returns-2 c =
+    let t = c .before .before in
+    let a = t .before .before .before .before .before .before .before .before .before .before .before .args in
+    let f = t .before .before .before .before .before .before .before .before .before .fixing in
+    let s : SFits w64 (f .result .amount) = search needs in
+    accepted-is (a .self) (call.Fix (a .set)) (code-is (t .before)) (t .if1 .left) (rw (c .fixed .ensures, toZ-ofZ s, f .ensures))
 
 pub fix-spec : {M : Type 1} → statement M
 fix-spec =

@@ -1,37 +1,56 @@
+-- `ledger::Figures::fixing` meets its contract: a clamped rate times any price and a size fits 64 bits. Assumes nothing.
+use mathlib.Core.Path.{_≡_, _∙_, ap, ap₂}
+use Prim.Native.Nat.{ℕ, _*_, _<_, _≤_, _^_}
+use native.Mathlib.Nat.{mul-le-mul}
+use native.Mathlib.Omega.{arith}
+use lib.IntN.{natAbs}
+use mir.Syntax.{w32, w64}
+use mir.Val.{SFits, Fits, toZ, ofZ}
+use mir.Facts.{toZ-ofZ}
 use borrow.Author.Needs.{needs}
+use Rattle.funding.proofs.Bounds.{clamped-size}
+use Rattle.funding.specs.Fixing.{rateOf, clampedTo}
+use Rattle.funding.specs.Terms.{standardTerms}
+use Rattle.ledger.specs.Effects.{rateAt, fixingAt}
 use Rattle.ledger.proofs.Figures.fixing.Statement.{statement}
 use Rattle.ledger.proofs.Figures.fixing.Tie as tie
-use Rattle.ledger.proofs.Figures.fixing.Reads as reads
-use Rattle.ledger.proofs.Figures.fixing.Lts as lts
-use Rattle.funding.proofs.amount.Reads as amount-reads
-use Rattle.funding.proofs.clamp.Reads as clamp-reads
-use Rattle.funding.proofs.rate.Reads as rate-reads
-use Rattle.funding.proofs.settlement_price.Reads as settlement-price-reads
-use Rattle.ledger.proofs.product.Product.terms.Reads as terms-reads
 
--- src/fix.rt:35:13
+fit : (rate price size : ℕ) → rate ≤ 2000000 → price < 4294967296 → size ≤ 10 → (rate * (price * size) < 2 ^ 63) × (price * size < 2 ^ 63)
+fit rate price size r p s =
+    let q : price ≤ 4294967295 = omega arith in
+    let m = mul-le-mul q s in
+    (omega (arith, mul-le-mul r m), omega arith)
+
+-- the clamped rate
+rate-is : (c : tie.After-clamp) → toZ w64 (ofZ w64 (c .clamp .result)) ≡ rateAt (c .before .before .before .before .before .before .args .self)
+rate-is c =
+    let d = c .before .before .before .before .before .before .args .self .day in
+    let s : SFits w64 (d .weighted) = search needs in
+    toZ-ofZ (record { sfits = c .clamp .ok }) ∙ c .clamp .ensures
+    ∙ ap₂ clampedTo (c .before .terms .ensures) (toZ-ofZ (record { sfits = c .before .before .rate .ok }) ∙ c .before .before .rate .ensures ∙ ap (rateOf (d .valid)) (toZ-ofZ s))
+
 settlement-price-requires : tie.Need-settlement-price-requires
 settlement-price-requires c κs = search needs
 
--- src/fix.rt:36:35
 rate-requires : tie.Need-rate-requires
 rate-requires c κs = search needs
 
--- src/fix.rt:36:75
 terms-requires : tie.Need-terms-requires
 terms-requires c κs = search needs
 
--- src/fix.rt:36:13
 clamp-requires : tie.Need-clamp-requires
 clamp-requires c κs = search needs
 
--- src/fix.rt:40:21
 amount-requires : tie.Need-amount-requires
-amount-requires c κs = ?
+amount-requires c κs =
+    let f = c .before .before .before .before .before .before .args .self in
+    let p : Fits w32 (c .before .before .before .before .settlement-price .result) = search needs in
+    rw (rate-is c) (fit (natAbs (rateAt f)) _ (f .size) (clamped-size standardTerms (rateOf (f .day .valid) (f .day .weighted)) 2000000 (omega arith) (omega arith)) (p .fits) (c .before .before .before .before .before .before .pre .size))
 
--- src/fix.rt:30:5
 returns : tie.Need-returns
-returns c = ?
+returns c =
+    rw
+    (toZ-ofZ {w = w64} {z = c .amount .result} (record { sfits = c .amount .ok }), c .amount .ensures, rate-is (c .before), c .before .before .before .before .before .settlement-price .ensures)
 
 pub fixing-spec : {M : Type 1} → statement M
 fixing-spec =

@@ -1,55 +1,98 @@
+-- `ledger::Figures::minute_end` meets its contract: the refusals in their order, or the day after the minute. Assumes nothing.
+use mathlib.Core.Path.{_≡_, refl, sym, _∙_}
+use mathlib.Core.Bool.{true, not, _||_}
+use mathlib.Core.List.{_∷_, []}
+use Prim.Native.Nat.{ℕ, zero, suc, _<_}
+use native.Mathlib.Omega.{arith}
+use lib.Dec.{leb, eqb}
+use borrow.Author.Tests.{leb-false, not-false, not-true, eqb-false}
 use borrow.Author.Needs.{needs}
+use Rattle.funding.specs.Minute.{withinSpread}
+use Rattle.funding.specs.Price.{isGiven}
+use Rattle.ledger.specs.Columns.{accounts}
+use Rattle.ledger.specs.Day.{termsOn, twoSided, isFixed, isValid}
+use Rattle.ledger.specs.Effects.{figuresAfter, fixingOf}
+use Rattle.ledger.specs.Inner.{figuresRefusal}
+use Rattle.ledger.specs.Limits.{noneOrPrice}
+use Rattle.ledger.specs.Refusals.{isFull, orElse}
+use Rattle.ledger.specs.declared.Figures.{Figures}
+use Rattle.ledger.specs.declared.Call.the-variants as call
+use Rattle.ledger.proofs.Held.{held-figures}
+use Rattle.ledger.proofs.KeepingDay.{accrues}
+use Rattle.ledger.proofs.Outcomes.{refused-is, accepted-is}
+use Rattle.ledger.proofs.Outcomes.{unmet}
+use Rattle.ledger.proofs.Tests.{each, none}
 use Rattle.ledger.proofs.Figures.minute_end.Statement.{statement}
 use Rattle.ledger.proofs.Figures.minute_end.Tie as tie
-use Rattle.ledger.proofs.Figures.minute_end.Reads as reads
-use Rattle.ledger.proofs.Figures.minute_end.Lts as lts
-use Rattle.ledger.proofs.Day.minute_ended.Reads as minute-ended-reads
-use Rattle.ledger.proofs.Figures.accepted.Reads as accepted-reads
-use Rattle.ledger.proofs.Figures.is_full.Reads as is-full-reads
-use Rattle.ledger.proofs.Figures.is_valid.Reads as is-valid-reads
-use Rattle.ledger.proofs.Figures.refused.Reads as refused-reads
-use Rattle.ledger.proofs.limits.none_or_price.Reads as none-or-price-reads
-use Rattle.ledger.proofs.quoting.or_else.Reads as or-else-reads
 
--- src/minute.rt:81:20
+-- a valid minute has an index
+given : (f : Figures) (u : ℕ) → isValid (termsOn (f .closed)) (f .halted) (f .day .minute) u ≡ true → 0 < u
+given f u v =
+    let m = f .day .minute in
+    let e = each (not (f .halted)) (twoSided m ∷ isGiven u ∷ withinSpread (termsOn (f .closed)) (m .bid) (m .offer) ∷ []) v 2 in
+    some u (eqb-false u 0 (not-true (eqb u 0) e))
+  where
+    some : (u : ℕ) → (u ≡ 0 → ⊥) → 0 < u
+    some zero h = absurd (h refl)
+    some (suc u) h = omega arith
+
+-- the number
+code-is : (c : tie.After-or-else2) → let a = c .before .before .before .before .before .before .before .args in c .or-else2 .result ≡ figuresRefusal accounts (a .self) (call.MinuteEnd (a .index))
+code-is c = c .or-else2 .ensures ∙ rw (c .before .or-else .ensures, c .before .before .none-or-price .ensures, c .before .before .before .before .before .is-full .ensures)
+
 is-full-requires : tie.Need-is-full-requires
 is-full-requires c κs = search needs
 
--- src/minute.rt:82:46
 none-or-price-requires : tie.Need-none-or-price-requires
 none-or-price-requires c κs = search needs
 
--- src/minute.rt:82:37
 or-else-requires : tie.Need-or-else-requires
 or-else-requires c κs = search needs
 
--- src/minute.rt:82:13
 or-else-requires-2 : tie.Need-or-else-requires-2
 or-else-requires-2 c κs = search needs
 
--- src/minute.rt:84:13
 refused-requires : tie.Need-refused-requires
 refused-requires c κs = search needs
 
--- src/minute.rt:84:13
 returns : tie.Need-returns
-returns c = ?
+returns c =
+    let t = c .before in
+    let a = t .before .before .before .before .before .before .before .before .args in
+    refused-is (a .self) (call.MinuteEnd (a .index)) (code-is (t .before)) (t .if1 .taken) (c .refused .ensures)
 
--- src/minute.rt:87:38
 is-valid-requires : tie.Need-is-valid-requires
 is-valid-requires c κs = search needs
 
--- src/minute.rt:87:9
 minute-ended-requires : tie.Need-minute-ended-requires
-minute-ended-requires c κs = ?
+minute-ended-requires c κs =
+    let t = c .before in
+    let s = t .before .before .before .before .before .before .before .before in
+    let f = s .args .self in
+    let d = f .day in
+    let u = s .args .index in
+    let h = held-figures f (s .pre) in
+    let over = leb 1320 (d .minutes) || isFixed d in
+    let day = unmet (isFull f || over) 2 (orElse (not (noneOrPrice u)) 5 0) (sym (code-is (t .before)) ∙ t .if1 .left) in
+    let field = unmet (not (noneOrPrice u)) 4 0 (day .1) in
+    let before = leb-false 1320 (d .minutes) (none (leb 1320 (d .minutes)) (isFixed d ∷ []) (none (isFull f) (over ∷ []) (day .0) 1) 0) in
+    let valid : c .is-valid .result ≡ true → isValid (termsOn (f .closed)) (f .halted) (d .minute) u ≡ true = λ e. sym (c .is-valid .ensures) ∙ e in
+    record {
+      minutes = before;
+      count = omega (arith, h .day .minutes, h .day .valid);
+      given = λ e. given f u (valid e);
+      accrues = λ e. accrues d (h .day) (termsOn (f .closed)) (f .halted) u before (not-false (noneOrPrice u) (field .0)) (valid e);
+    }
 
--- src/minute.rt:88:9
 accepted-requires : tie.Need-accepted-requires
 accepted-requires c κs = search needs
 
--- src/minute.rt:76:5
 returns-2 : tie.Need-returns-2
-returns-2 c = ?
+unfolding figuresAfter fixingOf
+returns-2 c =
+    let t = c .before .before .before in
+    let a = t .before .before .before .before .before .before .before .before .args in
+    accepted-is (a .self) (call.MinuteEnd (a .index)) (code-is (t .before)) (t .if1 .left) (c .accepted .ensures ∙ rw (c .before .minute-ended .ensures, c .before .before .is-valid .ensures))
 
 pub minute-end-spec : {M : Type 1} → statement M
 minute-end-spec =

@@ -1,62 +1,81 @@
+-- `ledger::trading::trade_on` meets its contract: the refusals in their order, or both accounts' entries changed and the day after the trade. Assumes nothing.
+use mathlib.Core.Path.{_≡_, sym, _∙_}
+use mathlib.Core.Bool.{not}
+use Prim.Native.Nat.{_*_, _≤_}
+use native.Mathlib.Omega.{arith}
 use borrow.Author.Needs.{needs}
+use Rattle.ledger.specs.Columns.{accounts}
+use Rattle.ledger.specs.Effects.{fixingOf, effect}
+use Rattle.ledger.specs.Inner.{bookOf, tradeRefusal}
+use Rattle.ledger.specs.Refusals.{orElse, notAllowed, haltForbids, outsideField, volumeStays, positionStays}
+use Rattle.ledger.specs.declared.Call.the-variants as call
+use Rattle.ledger.proofs.KeepingTrade.{TradeFields, trade-fields}
+use Rattle.ledger.proofs.Outcomes.{unmet, refused-answer, accepted-answer}
 use Rattle.ledger.proofs.trading.trade_on.Statement.{statement}
 use Rattle.ledger.proofs.trading.trade_on.Tie as tie
-use Rattle.ledger.proofs.trading.trade_on.Reads as reads
-use Rattle.ledger.proofs.trading.trade_on.Lts as lts
-use Rattle.ledger.proofs.Day.traded.Reads as traded-reads
-use Rattle.ledger.proofs.Figures.accepted.Reads as accepted-reads
-use Rattle.ledger.proofs.Figures.refused.Reads as refused-reads
-use Rattle.ledger.proofs.trading.count.Reads as count-reads
-use Rattle.ledger.proofs.trading.exchange.Reads as exchange-reads
-use Rattle.ledger.proofs.trading.trade_code.Reads as trade-code-reads
 
--- src/trading.rt:163:9
+-- what an accepted trade's values are
+fields : (c : tie.Else1) → TradeFields accounts (c .before .before .before .before .args .t)
+fields c =
+    let a = c .before .before .before .before .args in
+    let trade = call.Trade (a .t) in
+    let volume = orElse (not (volumeStays (a .volume .now) (a .t))) 7 (orElse (not (positionStays (a .position .now) (a .t))) 8 0) in
+    let field = orElse (outsideField accounts trade) 5 volume in
+    let day = unmet (notAllowed (a .figures) trade) 2 (orElse (haltForbids (a .figures) trade) 4 field) (sym (c .before .trade-code .ensures) ∙ c .if1 .left) in
+    let halt = unmet (haltForbids (a .figures) trade) 3 field (day .1) in
+    trade-fields accounts (a .t) (unmet (outsideField accounts trade) 4 volume (halt .1) .0)
+
+product-most : (c : tie.Else1) → c .before .before .before .before .args .t .quantity * c .before .before .before .before .args .t .price ≤ 5000000000000
+product-most c = let f = fields c in omega (arith, f .high, f .quantity)
+
 trade-code-requires : tie.Need-trade-code-requires
 trade-code-requires c κs = search needs
 
--- src/trading.rt:165:9
 refused-requires : tie.Need-refused-requires
 refused-requires c κs = search needs
 
--- src/trading.rt:165:9
 returns : tie.Need-returns
-returns c = ?
+returns c =
+    let t = c .before in
+    let a = t .before .before .before .before .args in
+    λ opening cash.
+      refused-answer accounts (bookOf (a .figures) opening (a .position .now) (a .cost .now) (a .volume .now) cash) (call.Trade (a .t)) (t .before .trade-code .ensures) (t .if1 .taken) (c .refused .ensures)
 
--- src/trading.rt:167:20
 cast-quantity : tie.Need-cast-quantity
 cast-quantity c = search needs
 
--- src/trading.rt:168:5
 exchange-requires : tie.Need-exchange-requires
 exchange-requires c κs = search needs
 
--- src/trading.rt:169:34
 cast-exchange : tie.Need-cast-exchange
 cast-exchange c = search needs
 
--- src/trading.rt:169:23
 mul-exchange : tie.Need-mul-exchange
-mul-exchange c = ?
+mul-exchange c = omega (arith, product-most (c .before .before .before .before .before))
 
--- src/trading.rt:169:5
 exchange-requires-2 : tie.Need-exchange-requires-2
-exchange-requires-2 c κs = ?
+exchange-requires-2 c κs = (c .before .before .before .before .before .before .before .before .before .pre .costs, product-most (c .before .before .before .before .before))
 
--- src/trading.rt:170:5
 count-requires : tie.Need-count-requires
-count-requires c κs = ?
+count-requires c κs = (c .before .before .before .before .before .before .before .before .before .before .before .pre .volumes, fields (c .before .before .before .before .before .before .before) .quantity)
 
--- src/trading.rt:172:5
 traded-requires : tie.Need-traded-requires
-traded-requires c κs = ?
+traded-requires c κs =
+    let e = c .before .before .before .before .before .before .before .before in
+    let p = e .before .before .before .before .pre in
+    record { contracts = p .contracts; gross = p .gross; quantity = fields e .quantity; product = product-most e }
 
--- src/trading.rt:173:5
 accepted-requires : tie.Need-accepted-requires
 accepted-requires c κs = search needs
 
--- src/trading.rt:153:1
 returns-2 : tie.Need-returns-2
-returns-2 c = ?
+unfolding effect fixingOf
+returns-2 c =
+    let e = c .before .before .before .before .before .before .before .before .before .before in
+    let a = e .before .before .before .before .args in
+    λ opening cash.
+      accepted-answer accounts (bookOf (a .figures) opening (a .position .now) (a .cost .now) (a .volume .now) cash) (call.Trade (a .t)) (e .before .trade-code .ensures) (e .if1 .left)
+      (rw (c .accepted .ensures, c .before .traded .ensures, c .before .before .count .ensures, c .before .before .before .before .exchange2 .ensures, c .before .before .before .before .before .before .before .exchange .ensures))
 
 pub trade-on-spec : {M : Type 1} → statement M
 trade-on-spec =
