@@ -8,3 +8,5 @@ pub mod KeepingTrade
 pub mod Keeping
 pub mod Outcomes
 pub mod Raised
+pub mod Filling
+pub mod Lent

@@ -160,8 +160,12 @@ abbrev pub posting : Figures → ℤ → ℤ → ℤ → ℤ
 posting f position opening cost =
     (position *ℤ pos (f .day .price) -ℤ opening *ℤ pos (f .previous .price) -ℤ cost) *ℤ pos (f .size) +ℤ position *ℤ f .day .amount *ℤ pos 100
 
+-- the cash of account j after it, from the four columns
+abbrev pub posted : Figures → List ℤ → List ℤ → List ℤ → List ℤ → ℕ → ℤ
+posted f opening position cost cash j = entry cash j +ℤ posting f (entry position j) (entry opening j) (entry cost j)
+
 abbrev pub cashAfter : Book → ℕ → ℤ
-cashAfter b j = entry (b .cash) j +ℤ posting (b .figures) (entry (b .position) j) (entry (b .opening) j) (entry (b .cost) j)
+cashAfter b = posted (b .figures) (b .opening) (b .position) (b .cost) (b .cash)
 
 -- "present positions become opening ones"; cost and v start empty
 abbrev pub closedBook : ℕ → Book → Book

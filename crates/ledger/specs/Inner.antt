@@ -15,12 +15,14 @@ use Rattle.ledger.specs.declared.Figures.{Figures}
 use Rattle.ledger.specs.declared.Book.{Book}
 use Rattle.ledger.specs.declared.Answer.{Answer}
 use Rattle.ledger.specs.declared.Outcome.{Outcome}
-use Rattle.ledger.specs.Columns.{entry, countAt}
+use Rattle.ledger.specs.Columns.{accounts, entry, countAt}
 use Rattle.ledger.specs.Day.{minuteOf}
 use Rattle.ledger.specs.Opening.{noFixing}
 use Rattle.ledger.specs.Effects.{figuresAfter, fixingOf}
 use Rattle.ledger.specs.Refusals.{orElse, notAllowed, haltForbids, outsideField, crossed, volumeStays, positionStays, unpriced, refusalWithin}
+use Rattle.ledger.specs.Limits.{figuresHold, withinLimits}
 use Rattle.ledger.specs.Step.{answer}
+use Rattle.ledger.specs.Keeping.{Shaped}
 
 abbrev pub bookOf : Figures → List ℤ → List ℤ → List ℤ → List ℕ → List ℤ → Book
 bookOf f opening position cost volume cash = record { figures = f; opening = opening; position = position; cost = cost; volume = volume; cash = cash }
@@ -104,3 +106,22 @@ pub record Endable (d : Day) (valid : Bool) (u : ℕ) : Type 0 where
 pub record Fixable (f : Figures) : Type 0 where
   pub gross : f .day .traded .gross ≤ 50000000 * f .day .traded .contracts
   pub size : f .size ≤ 10
+
+-- an account's posting fits
+pub record Postable (f : Figures) (opening position cost : ℤ) : Type 0 where
+  pub figures : figuresHold f ≡ true
+  pub opening-size : natAbs opening ≤ 1200000
+  pub position-size : natAbs position ≤ 1200000
+  pub cost-size : natAbs cost ≤ 100000000000000
+
+-- so does every account's, and its cash of at most 2,600 days with it
+pub record Closable (f : Figures) (opening position cost cash : List ℤ) : Type 0 where
+  pub figures : figuresHold f ≡ true
+  pub cash-length : length cash ≡ accounts
+  pub postable : (j : ℕ) → j < accounts → Postable f (entry opening j) (entry position j) (entry cost j)
+  pub cash-size : (j : ℕ) → j < accounts → natAbs (entry cash j) ≤ 7020000000000000000
+
+-- a book of n accounts that is within its limits
+pub record WithinLimits (n : ℕ) (b : Book) : Type 0 where
+  pub shaped : Shaped n b
+  pub within : withinLimits n b ≡ true

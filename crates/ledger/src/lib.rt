@@ -1,9 +1,11 @@
 // The ledger of one contract, from the first quote of a trade date to the cash posted at its close.
+mod close;
 mod fix;
 mod limits;
 mod minute;
 pub mod product;
 mod quoting;
+pub mod step;
 mod trading;
 
 use funding::FinalMinute;

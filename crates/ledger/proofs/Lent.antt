@@ -1,0 +1,73 @@
+-- What a book within its limits gives the inner layer.
+--     tradable, fixable, closable     what its functions ask
+--     step-within                     refusal 2 passes
+--     on-figures                      a call that touches no account, on the figures alone
+-- Assumes nothing.
+use mathlib.Core.Path.{_≡_, refl, sym, _∙_, ap}
+use mathlib.Core.Bool.{Bool, true, false, cond}
+use mathlib.Core.List.{List}
+use Prim.Native.Nat.{ℕ, _+_, _*_, _<_, _≤_}
+use native.Mathlib.Omega.{arith}
+use lib.Dec.{eqb}
+use lib.IntN.{ℤ, natAbs}
+use lib.ListN.{length}
+use Rattle.ledger.specs.declared.Trade.{Trade}
+use Rattle.ledger.specs.declared.Call.{Call}
+use Rattle.ledger.specs.declared.Figures.{Figures}
+use Rattle.ledger.specs.declared.Book.{Book}
+use Rattle.ledger.specs.declared.Outcome.{Outcome}
+use Rattle.ledger.specs.Columns.{accounts, entry}
+use Rattle.ledger.specs.Effects.{figuresAfter, withFigures, effect}
+use Rattle.ledger.specs.Refusals.{refusalWithin, refusal}
+use Rattle.ledger.specs.Step.{step}
+use Rattle.ledger.specs.Inner.{bookOf, answerOf, outcome, figuresRefusal, answered, Exchangeable, Countable, Tradable, Fixable, Closable, WithinLimits}
+use Rattle.ledger.proofs.Held.{Held, held, figures-hold, contracts-most, size-most}
+
+module _ (b : Book) (w : WithinLimits accounts b) where
+  holds : Held accounts b
+  holds = held accounts b (w .within)
+
+  -- an account's cost is within its contracts at the largest price
+  cost-most : (j : ℕ) → j < accounts → natAbs (entry (b .cost) j) ≤ 100000000000000
+  cost-most j h = let a = holds .account j h in omega (arith, a .cost, a .volume)
+
+  pub tradable : (t : Trade) → t .buyer < accounts → t .seller < accounts → Tradable (b .figures) (b .position) (b .cost) (b .volume) t
+  tradable t hb hs =
+      let x = holds .account (t .buyer) hb in
+      let y = holds .account (t .seller) hs in
+      let p : length (b .position) ≡ accounts = w .shaped .position in
+      let c : length (b .cost) ≡ accounts = w .shaped .cost in
+      let v : length (b .volume) ≡ accounts = w .shaped .volume in
+      record {
+        positions = record { buyer-in = rw p hb; seller-in = rw p hs; buyer = x .position; seller = y .position };
+        costs = record { buyer-in = rw c hb; seller-in = rw c hs; buyer = cost-most (t .buyer) hb; seller = cost-most (t .seller) hs };
+        volumes = record { buyer-in = rw v hb; seller-in = rw v hs; buyer = x .volume; seller = y .volume };
+        contracts = omega (arith, contracts-most accounts b holds);
+        gross = omega (arith, contracts-most accounts b holds, holds .final .high);
+      }
+
+  pub fixable : Fixable (b .figures)
+  fixable = record { gross = holds .final .high; size = size-most (b .figures .size) (holds .figures .size) }
+
+  pub closable : Closable (b .figures) (b .opening) (b .position) (b .cost) (b .cash)
+  closable =
+      let f = figures-hold (b .figures) (holds .figures) in
+      record {
+        figures = f;
+        cash-length = w .shaped .cash;
+        postable = λ j h. record { figures = f; opening-size = holds .account j h .opening; position-size = holds .account j h .position; cost-size = cost-most j h };
+        cash-size = λ j h. omega (arith, holds .account j h .cash, holds .figures .closed);
+      }
+
+pub step-within : (n : ℕ) (b : Book) (c : Call) → WithinLimits n b → answered n b c ≡ step n b c
+unfolding step refusal
+step-within n b c w = rw (w .within)
+
+through : (t : Bool) (f g : Figures) (opening position cost : List ℤ) (volume : List ℕ) (cash : List ℤ) → bookOf (cond t f g) opening position cost volume cash ≡ cond t (bookOf f opening position cost volume cash) (bookOf g opening position cost volume cash)
+through true f g opening position cost volume cash = refl
+through false f g opening position cost volume cash = refl
+
+pub on-figures : (n : ℕ) (b : Book) (c : Call) {r : Outcome} → refusalWithin n b c ≡ figuresRefusal n (b .figures) c → effect n b c ≡ withFigures b (figuresAfter (b .figures) c) → r ≡ outcome (b .figures) (figuresRefusal n (b .figures) c) c → answerOf r (b .opening) (b .position) (b .cost) (b .volume) (b .cash) ≡ answered n b c
+on-figures n b c {r} number after e =
+    ap (λ (r : Outcome). answerOf r (b .opening) (b .position) (b .cost) (b .volume) (b .cash)) e
+    ∙ rw (number, after, through (eqb (figuresRefusal n (b .figures) c) 0) (figuresAfter (b .figures) c) (b .figures) (b .opening) (b .position) (b .cost) (b .volume) (b .cash))
