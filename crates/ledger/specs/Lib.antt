@@ -5,5 +5,6 @@ pub mod Limits
 pub mod Effects
 pub mod Refusals
 pub mod Step
+pub mod Report
 pub mod Keeping
 pub mod Inner

@@ -5,6 +5,7 @@ mod limits;
 mod minute;
 pub mod product;
 mod quoting;
+pub mod report;
 pub mod step;
 mod trading;
 
@@ -15,15 +16,21 @@ use funding::Previous;
 pub const ACCOUNTS: usize = 256;
 // The minutes of a day.
 pub const DAY_LENGTH: u32 = 1_320;
+
 pub const MOST_DAYS: u32 = 2_600;
+
 pub const MOST_VOLUME: u32 = 2_000_000;
+
 pub const MOST_POSITION: u64 = 1_200_000;
+
 pub const MOST_AMOUNT: u64 = 10_000;
 // What an account's cash may rise or fall by in a day.
 pub const MOST_POSTING: u64 = 2_700_000_000_000_000;
 // What the basis of a minute may come to.
 pub const MOST_BASIS: u64 = 9_999_000_000_000;
+
 pub const MOST_QUANTITY: u32 = 100_000;
+
 pub const LEAST_BLOCK: u32 = 250;
 
 // A market, or one side of it: 0 where a side doesn't stand.

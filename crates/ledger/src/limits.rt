@@ -130,14 +130,7 @@ impl Figures {
 }
 
 // The product of days and a day's largest posting has to fit: days within their own limit are asked.
-fn account_holds(
-    closed: u32,
-    opening: i64,
-    position: i64,
-    cost: i64,
-    v: u32,
-    cash: i64,
-) -> bool
+fn account_holds(closed: u32, opening: i64, position: i64, cost: i64, v: u32, cash: i64) -> bool
     requires { ⌜ closed ≤ 2600 ⌝ }
     ensures { λ r. ⌜ r ≡ accountHolds closed opening position cost v cash ⌝ }
 {

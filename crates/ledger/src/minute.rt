@@ -44,7 +44,11 @@ impl Day {
     fn index_after(self, index: u32) -> u32
         ensures { λ r. ⌜ r ≡ cond (inLastMinute (self .minutes)) index (self .index) ⌝ }
     {
-        if self.is_in_last_minute() { index } else { self.index }
+        if self.is_in_last_minute() {
+            index
+        } else {
+            self.index
+        }
     }
 
     fn minute_ended(self, valid: bool, index: u32) -> Day

@@ -99,11 +99,7 @@ impl Market {
     pub fn as_minute(self, otherwise: Market) -> Market
         ensures { λ r. ⌜ r ≡ asMinute self otherwise ⌝ }
     {
-        if self.is_two_sided() {
-            self
-        } else {
-            otherwise
-        }
+        if self.is_two_sided() { self } else { otherwise }
     }
 }
 

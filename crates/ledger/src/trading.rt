@@ -39,11 +39,7 @@ impl Trade {
         ensures { λ r. ⌜ r ≡ cond (eqb (self .buyer) (self .seller)) (self .quantity + self .quantity) (self .quantity) ⌝ }
     {
         let q = self.quantity as u64;
-        if self.buyer == self.seller {
-            q + q
-        } else {
-            q
-        }
+        if self.buyer == self.seller { q + q } else { q }
     }
 
     // What the positions of its accounts move by: a trade with oneself moves none.

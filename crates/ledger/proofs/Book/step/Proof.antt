@@ -1,32 +1,48 @@
+-- `ledger::Book::step` meets its contract: refusal 2, or the call on the book's columns. Assumes nothing.
+use mathlib.Core.Path.{_≡_, sym, _∙_}
+use mathlib.Core.Bool.{true, false}
+use lib.ListN.{length}
+use borrow.Author.Tests.{not-true, not-false}
 use borrow.Author.Needs.{needs}
+use Rattle.ledger.specs.Columns.{accounts}
+use Rattle.ledger.specs.Keeping.{Shaped}
+use Rattle.ledger.specs.Limits.{withinLimits}
+use Rattle.ledger.specs.Refusals.{refusal}
+use Rattle.ledger.specs.Step.{step}
 use Rattle.ledger.proofs.Book.step.Statement.{statement}
 use Rattle.ledger.proofs.Book.step.Tie as tie
-use Rattle.ledger.proofs.Book.step.Reads as reads
-use Rattle.ledger.proofs.Book.step.Lts as lts
-use Rattle.ledger.proofs.Book.is_within_limits.Reads as is-within-limits-reads
-use Rattle.ledger.proofs.Fixing.none.Reads as none-reads
-use Rattle.ledger.proofs.step.step_on.Reads as step-on-reads
 
--- src/step.rt:49:13
+shaped : (s : tie.Start) → Shaped accounts (s .args .self)
+shaped s = record { opening = search needs; position = search needs; cost = search needs; volume = search needs; cash = search needs }
+
 is-within-limits-requires : tie.Need-is-within-limits-requires
 is-within-limits-requires c κs = search needs
 
--- src/step.rt:52:25
 none-requires : tie.Need-none-requires
 none-requires c κs = search needs
 
--- src/step.rt:50:13
 returns : tie.Need-returns
-returns c = ?
+unfolding step refusal
+returns c =
+    let t = c .before in
+    let h : withinLimits accounts (t .before .before .args .self) ≡ false = sym (t .before .is-within-limits .ensures) ∙ not-true (t .before .is-within-limits .result) (t .if1 .taken) in
+    rw (c .none .ensures, h)
 
--- src/step.rt:62:13
 step-on-requires : tie.Need-step-on-requires
-step-on-requires c κs = ?
+step-on-requires c κs =
+    let e = c .before .before .before .before .before .before .before .before .before .before .before in
+    let s = e .before .before in
+    record { shaped = shaped s; within = sym (e .before .is-within-limits .ensures) ∙ not-false (e .before .is-within-limits .result) (e .if1 .left) }
 
--- src/step.rt:46:5
 returns-2 : tie.Need-returns-2
-returns-2 c = search needs
+returns-2 c = c .before .before .step-on .ensures
 
 pub step-spec : {M : Type 1} → statement M
 step-spec =
-    tie.close (tie.spec is-within-limits-requires none-requires returns step-on-requires returns-2)
+    tie.close
+    (tie.spec
+    is-within-limits-requires
+    none-requires
+    returns
+    step-on-requires
+    returns-2)

@@ -34,6 +34,7 @@ fix-holds-requires c κs = search needs
 returns : tie.Need-returns
 unfolding dayHolds
 returns c = rw (c .before .before .before .before .minutes-hold .ensures, c .before .before .before .holds .ensures, c .before .before .holds-minute .ensures, c .before .prices-hold .ensures, c .fix-holds .ensures)
+
 pub holds-spec : {M : Type 1} → statement M
 holds-spec =
     tie.close

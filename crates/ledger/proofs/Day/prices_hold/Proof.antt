@@ -30,6 +30,7 @@ returns : tie.Need-returns
 returns c =
     let s : SFits w64 (c .before .before .before .before .before .args .self .amount) = search needs in
     rw (c .before .before .before .before .none-or-price .ensures, c .before .before .before .none-or-price2 .ensures, c .before .before .none-or-price3 .ensures, c .is-within .ensures, toZ-ofZ s)
+
 pub prices-hold-spec : {M : Type 1} → statement M
 prices-hold-spec =
     tie.close

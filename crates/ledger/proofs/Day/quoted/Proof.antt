@@ -17,5 +17,6 @@ with-markets-requires c κs = search needs
 -- src/quoting.rt:130:5
 returns : tie.Need-returns
 returns c = cc
+
 pub quoted-spec : {M : Type 1} → statement M
 quoted-spec = tie.close (tie.spec as-minute-requires with-markets-requires returns)

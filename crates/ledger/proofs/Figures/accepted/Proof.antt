@@ -12,5 +12,6 @@ none-requires c κs = search needs
 -- src/quoting.rt:51:5
 returns : tie.Need-returns
 returns c = cc
+
 pub accepted-spec : {M : Type 1} → statement M
 accepted-spec = tie.close (tie.spec none-requires returns)

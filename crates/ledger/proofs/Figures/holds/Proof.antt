@@ -23,6 +23,7 @@ holds-requires c κs = search needs
 returns : tie.Need-returns
 unfolding figuresHold
 returns c = rw (c .before .before .none-or-price .ensures, c .before .none-or-price2 .ensures, c .holds .ensures)
+
 pub holds-spec : {M : Type 1} → statement M
 holds-spec =
     tie.close (tie.spec none-or-price-requires none-or-price-requires-2 holds-requires returns)

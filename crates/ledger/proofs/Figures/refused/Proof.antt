@@ -12,5 +12,6 @@ none-requires c κs = search needs
 -- src/quoting.rt:41:5
 returns : tie.Need-returns
 returns c = cc
+
 pub refused-spec : {M : Type 1} → statement M
 refused-spec = tie.close (tie.spec none-requires returns)

@@ -12,8 +12,10 @@ is-two-sided-requires c κs = search needs
 -- src/quoting.rt:110:5
 returns : tie.Need-returns
 returns c = rw (← c .before .is-two-sided .ensures, c .if1 .taken)
+
 -- src/quoting.rt:110:5
 returns-2 : tie.Need-returns-2
 returns-2 c = rw (← c .before .is-two-sided .ensures, c .if1 .left)
+
 pub as-minute-spec : {M : Type 1} → statement M
 as-minute-spec = tie.close (tie.spec is-two-sided-requires returns returns-2)

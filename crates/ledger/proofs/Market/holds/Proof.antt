@@ -21,6 +21,7 @@ is-uncrossed-requires c κs = search needs
 -- src/limits.rt:55:5
 returns : tie.Need-returns
 returns c = rw (c .before .before .none-or-ticked .ensures, c .before .none-or-ticked2 .ensures, c .is-uncrossed .ensures)
+
 pub holds-spec : {M : Type 1} → statement M
 holds-spec =
     tie.close

@@ -17,5 +17,6 @@ is-two-sided-requires c κs = search needs
 -- src/limits.rt:61:5
 returns : tie.Need-returns
 returns c = rw (c .before .before .before .holds .ensures, c .before .before .is-two-sided .ensures)
+
 pub holds-minute-spec : {M : Type 1} → statement M
 holds-minute-spec = tie.close (tie.spec holds-requires is-two-sided-requires returns)

@@ -48,7 +48,7 @@ module _ (c : tie.After-posting Inv-loop μ-loop) where
       let p = start .pre .postable i inside in
       let h : natAbs (entry (c .before .before .before .before .before .before .loop .cash) i) ≤ 7020000000000000000 = rw cash-at (start .pre .cash-size i inside) in
       let k : natAbs (c .posting .result) ≤ 2700000000000000 =
-        rw posting-is (posting-size (start .args .figures) (entry (start .args .position .now) i) (entry (start .args .opening .now) i) (entry (start .args .cost .now) i) (held-figures (start .args .figures) (p .figures)) (p .position-size) (p .opening-size) (p .cost-size)) in
+      rw posting-is (posting-size (start .args .figures) (entry (start .args .position .now) i) (entry (start .args .opening .now) i) (entry (start .args .cost .now) i) (held-figures (start .args .figures) (p .figures)) (p .position-size) (p .opening-size) (p .cost-size)) in
       h ▹ k ▹ done
 
 loop-holds : tie.Need-loop-holds Inv-loop μ-loop

@@ -37,6 +37,7 @@ is-within-requires-4 c κs = search needs
 -- src/limits.rt:133:1
 returns : tie.Need-returns
 returns c = let s = c .before .before .before .before in rw (c .before .before .before .is-within .ensures, c .before .before .is-within2 .ensures, c .before .is-within3 .ensures, c .is-within4 .ensures, toZ-ofZ (s .fits .opening), toZ-ofZ (s .fits .position), toZ-ofZ (s .fits .cost), toZ-ofZ (s .fits .cash))
+
 pub account-holds-spec : {M : Type 1} → statement M
 account-holds-spec =
     tie.close

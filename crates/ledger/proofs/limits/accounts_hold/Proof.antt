@@ -70,12 +70,12 @@ loop-again c =
     let b = turn .before .before .args .t1 in
     let i = turn .before .loop .i in
     let e : c .account-holds .result ≡ accountOf b i =
-      c .account-holds .ensures
-      ∙ same (b .figures .closed) (countAt (b .volume) i)
-      (read-back (entry (b .opening) i) (c .before .before .before .before .before .opening .given))
-      (read-back (entry (b .position) i) (c .before .before .before .before .position .given))
-      (read-back (entry (b .cost) i) (c .before .before .before .cost .given))
-      (read-back (entry (b .cash) i) (c .before .cash .given)) in
+    c .account-holds .ensures
+    ∙ same (b .figures .closed) (countAt (b .volume) i)
+    (read-back (entry (b .opening) i) (c .before .before .before .before .before .opening .given))
+    (read-back (entry (b .position) i) (c .before .before .before .before .position .given))
+    (read-back (entry (b .cost) i) (c .before .before .before .cost .given))
+    (read-back (entry (b .cash) i) (c .before .cash .given)) in
     (search needs, ap₂ _&&_ (turn .before .loop .inv .1) e ∙ sym (allBelow-suc i (accountOf b)) ∙ ap (λ (n : ℕ). allBelow n (accountOf b)) (sym (add-one i)))
 
 returns : tie.Need-returns Inv-loop μ-loop

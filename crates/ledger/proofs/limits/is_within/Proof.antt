@@ -13,5 +13,6 @@ magnitude-requires c κs = search needs
 -- src/limits.rt:36:1
 returns : tie.Need-returns
 returns c = rw (c .magnitude .ensures, toZ-ofZ (c .before .fits .x))
+
 pub is-within-spec : {M : Type 1} → statement M
 is-within-spec = tie.close (tie.spec magnitude-requires returns)

@@ -12,5 +12,6 @@ is-price-requires c κs = search needs
 -- src/limits.rt:24:1
 returns : tie.Need-returns
 returns c = rw (c .is-price .ensures)
+
 pub none-or-price-spec : {M : Type 1} → statement M
 none-or-price-spec = tie.close (tie.spec is-price-requires returns)

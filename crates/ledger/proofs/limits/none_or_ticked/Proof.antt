@@ -12,5 +12,6 @@ is-ticked-requires c κs = search needs
 -- src/limits.rt:30:1
 returns : tie.Need-returns
 returns c = rw (c .is-ticked .ensures)
+
 pub none-or-ticked-spec : {M : Type 1} → statement M
 none-or-ticked-spec = tie.close (tie.spec is-ticked-requires returns)

@@ -64,9 +64,15 @@ returns c =
     let s = m .before .before .before in
     let t = s .args .t in
     let p = s .pre in
-    rw
-    (c .before .is-within .ensures, c .is-within2 .ensures, runs (within m) (add (arg 0) (arg 2)) tt, runs (within m) (sub (arg 1) (arg 2)) tt, m .moves .ensures,
-    buyer-entry (s .args .position .now) (t .buyer) (t .seller) (t .quantity) (p .buyer-in) (p .seller-in), seller-entry (s .args .position .now) (t .buyer) (t .seller) (t .quantity) (p .buyer-in) (p .seller-in))
+    rw (
+      c .before .is-within .ensures,
+      c .is-within2 .ensures,
+      runs (within m) (add (arg 0) (arg 2)) tt,
+      runs (within m) (sub (arg 1) (arg 2)) tt,
+      m .moves .ensures,
+      buyer-entry (s .args .position .now) (t .buyer) (t .seller) (t .quantity) (p .buyer-in) (p .seller-in),
+      seller-entry (s .args .position .now) (t .buyer) (t .seller) (t .quantity) (p .buyer-in) (p .seller-in),
+    )
 
 pub position-stays-spec : {M : Type 1} → statement M
 position-stays-spec =

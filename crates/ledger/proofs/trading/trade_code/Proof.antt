@@ -47,9 +47,19 @@ returns c =
     let s = own .before .before .before in
     let t = s .args .t in
     c .or-else5 .ensures
-    ∙ rw
-    (lt-ltb (t .buyer) 256 (buyer-is s .fits), lt-ltb (t .seller) 256 (seller-is s .fits), or-false, c .before .or-else4 .ensures, c .before .before .is-full .ensures, c .before .before .before .or-else3 .ensures,
-    c .before .before .before .before .is-outside .ensures, c .before .before .before .before .before .or-else2 .ensures, own .or-else .ensures, own .before .position-stays .ensures, own .before .before .volume-stays .ensures)
+    ∙ rw (
+      lt-ltb (t .buyer) 256 (buyer-is s .fits),
+      lt-ltb (t .seller) 256 (seller-is s .fits),
+      or-false,
+      c .before .or-else4 .ensures,
+      c .before .before .is-full .ensures,
+      c .before .before .before .or-else3 .ensures,
+      c .before .before .before .before .is-outside .ensures,
+      c .before .before .before .before .before .or-else2 .ensures,
+      own .or-else .ensures,
+      own .before .position-stays .ensures,
+      own .before .before .volume-stays .ensures,
+    )
 
 pub trade-code-spec : {M : Type 1} → statement M
 trade-code-spec =

@@ -39,7 +39,7 @@ returns c =
     let t = c .before in
     let a = t .before .before .before .before .args in
     λ opening cash.
-      refused-answer accounts (bookOf (a .figures) opening (a .position .now) (a .cost .now) (a .volume .now) cash) (call.Trade (a .t)) (t .before .trade-code .ensures) (t .if1 .taken) (c .refused .ensures)
+    refused-answer accounts (bookOf (a .figures) opening (a .position .now) (a .cost .now) (a .volume .now) cash) (call.Trade (a .t)) (t .before .trade-code .ensures) (t .if1 .taken) (c .refused .ensures)
 
 cast-quantity : tie.Need-cast-quantity
 cast-quantity c = search needs
@@ -74,8 +74,8 @@ returns-2 c =
     let e = c .before .before .before .before .before .before .before .before .before .before in
     let a = e .before .before .before .before .args in
     λ opening cash.
-      accepted-answer accounts (bookOf (a .figures) opening (a .position .now) (a .cost .now) (a .volume .now) cash) (call.Trade (a .t)) (e .before .trade-code .ensures) (e .if1 .left)
-      (rw (c .accepted .ensures, c .before .traded .ensures, c .before .before .count .ensures, c .before .before .before .before .exchange2 .ensures, c .before .before .before .before .before .before .before .exchange .ensures))
+    accepted-answer accounts (bookOf (a .figures) opening (a .position .now) (a .cost .now) (a .volume .now) cash) (call.Trade (a .t)) (e .before .trade-code .ensures) (e .if1 .left)
+    (rw (c .accepted .ensures, c .before .traded .ensures, c .before .before .count .ensures, c .before .before .before .before .exchange2 .ensures, c .before .before .before .before .before .before .before .exchange .ensures))
 
 pub trade-on-spec : {M : Type 1} → statement M
 trade-on-spec =

@@ -60,9 +60,11 @@ returns c =
     let s = c .before .before .before .before .before in
     let t = s .args .t in
     let p = s .pre in
-    rw
-    (buyer-count (s .args .volume .now) (t .buyer) (t .seller) (t .quantity) (p .buyer-in) (p .seller-in), seller-count (s .args .volume .now) (t .buyer) (t .seller) (t .quantity) (p .buyer-in) (p .seller-in),
-    c .before .before .counts .ensures)
+    rw (
+      buyer-count (s .args .volume .now) (t .buyer) (t .seller) (t .quantity) (p .buyer-in) (p .seller-in),
+      seller-count (s .args .volume .now) (t .buyer) (t .seller) (t .quantity) (p .buyer-in) (p .seller-in),
+      c .before .before .counts .ensures,
+    )
 
 pub volume-stays-spec : {M : Type 1} → statement M
 volume-stays-spec =
