@@ -15,7 +15,10 @@ pub fn decode(bytes: &[u8]) -> String {
     let mut place = 1;
     while let Some((record, after)) = Record::read(rest) {
         let each = rest.len() - after.len();
-        let times = 1 + equal_records(&rest[..each], after);
+        let times = match record {
+            Record::MinuteEnd { .. } => 1 + equal_records(&rest[..each], after),
+            _ => 1,
+        };
         text += &record_line(&record, place, times);
         place += times;
         rest = &rest[each * times..];

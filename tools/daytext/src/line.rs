@@ -3,6 +3,7 @@
 use crate::record::{Record, LONGEST_BODY};
 use crate::value;
 use std::iter::Peekable;
+use std::ops::RangeInclusive;
 use std::str::SplitWhitespace;
 
 /// Enough for every day; a slip must not fill the disk.
@@ -74,9 +75,9 @@ impl Words<'_> {
         let buyer = self.byte("buyer", "")?;
         let seller = self.byte("seller", "")?;
         let kind = self.kind()?;
-        let quantity = self.number("quantity", u32::MAX, "")?;
+        let quantity = self.number("quantity", 0..=u32::MAX, "")?;
         self.word("at", "price")?;
-        let price = self.number("price", u32::MAX, "")?;
+        let price = self.number("price", 0..=u32::MAX, "")?;
         Ok(Record::Trade {
             buyer,
             seller,
@@ -139,16 +140,11 @@ impl Words<'_> {
         if self.0.next_if_eq(&"times").is_none() {
             return Ok(1);
         }
-        match self.number("count after times", MOST_TIMES, "")? {
-            0 => Err(format!(
-                "the count after times is 0; expected a number from 1 to {MOST_TIMES}"
-            )),
-            times => Ok(times),
-        }
+        self.number("count after times", 1..=MOST_TIMES, "")
     }
 
     fn byte(&mut self, name: &str, others: &str) -> Result<u8, String> {
-        let number = self.number(name, u32::from(u8::MAX), others)?;
+        let number = self.number(name, 0..=u32::from(u8::MAX), others)?;
         Ok(u8::try_from(number).expect("the number is at most 255"))
     }
 
@@ -157,17 +153,23 @@ impl Words<'_> {
         if self.0.next_if_eq(&"-").is_some() {
             return Ok(0);
         }
-        self.number(name, u32::MAX, ", or - for none")
+        self.number(name, 0..=u32::MAX, ", or - for none")
     }
 
-    /// A number up to `most`; `others` names the words that could stand in its place.
-    fn number(&mut self, name: &str, most: u32, others: &str) -> Result<u32, String> {
-        let expected = format!("expected a number from 0 to {most}{others}");
+    /// A number in its range; `others` names the words that could stand in its place.
+    fn number(
+        &mut self,
+        name: &str,
+        range: RangeInclusive<u32>,
+        others: &str,
+    ) -> Result<u32, String> {
+        let (least, most) = (range.start(), range.end());
+        let expected = format!("expected a number from {least} to {most}{others}");
         let Some(word) = self.0.next() else {
             return Err(format!("the {name} is missing; {expected}"));
         };
         value::number(word)
-            .filter(|&number| number <= most)
+            .filter(|number| range.contains(number))
             .ok_or(format!("the {name} is \"{word}\"; {expected}"))
     }
 
