@@ -21,29 +21,27 @@ fn first_words() {
     );
 }
 
+/// What a value of each field is expected to be.
+const BYTE: &str = "expected a number from 0 to 255";
+const KIND: &str = "expected a number from 0 to 255, or simple, spread or block";
+const NUMBER: &str = "expected a number from 0 to 4294967295";
+const NUMBER_OR_NONE: &str = "expected a number from 0 to 4294967295, or - for none";
+const COUNT: &str = "expected a number from 1 to 1000000";
+const HEXADECIMAL: &str = "expected two hexadecimal digits for each";
+
 #[test]
 fn missing_values() {
-    let word = "expected a number from 0 to 4294967295";
-    let byte = "expected a number from 0 to 255";
     for (line, name, expected) in [
-        ("quote", "bid", format!("{word}, or - for none")),
-        ("quote 200100", "offer", format!("{word}, or - for none")),
-        ("minute", "index", format!("{word}, or - for none")),
-        ("trade", "buyer", byte.to_string()),
-        ("trade 3", "seller", byte.to_string()),
-        (
-            "trade 3 7",
-            "kind",
-            format!("{byte}, or simple, spread or block"),
-        ),
-        ("trade 3 7 simple", "quantity", word.to_string()),
-        ("trade 3 7 simple 12 at", "price", word.to_string()),
-        ("record", "tag", byte.to_string()),
-        (
-            "halt times",
-            "count after times",
-            "expected a number from 1 to 1000000".to_string(),
-        ),
+        ("quote", "bid", NUMBER_OR_NONE),
+        ("quote 200100", "offer", NUMBER_OR_NONE),
+        ("minute", "index", NUMBER_OR_NONE),
+        ("trade", "buyer", BYTE),
+        ("trade 3", "seller", BYTE),
+        ("trade 3 7", "kind", KIND),
+        ("trade 3 7 simple", "quantity", NUMBER),
+        ("trade 3 7 simple 12 at", "price", NUMBER),
+        ("record", "tag", BYTE),
+        ("halt times", "count after times", COUNT),
     ] {
         check(line, &format!("the {name} is missing; {expected}"));
     }
@@ -55,75 +53,46 @@ fn missing_values() {
 }
 
 #[test]
-fn wrong_values() {
-    for (line, expected) in [
-        (
-            "quote 200100 x",
-            "the offer is \"x\"; expected a number from 0 to 4294967295, or - for none",
-        ),
-        (
-            "quote 2001,00 0",
-            "the bid is \"2001,00\"; expected a number from 0 to 4294967295, or - for none",
-        ),
+fn wrong_numbers() {
+    for (line, found, expected) in [
+        ("quote 200100 x", "offer is \"x\"", NUMBER_OR_NONE),
+        ("quote 2001,00 0", "bid is \"2001,00\"", NUMBER_OR_NONE),
         (
             "minute 4294967296",
-            "the index is \"4294967296\"; expected a number from 0 to 4294967295, or - for none",
+            "index is \"4294967296\"",
+            NUMBER_OR_NONE,
         ),
+        ("minute times 3", "index is \"times\"", NUMBER_OR_NONE),
+        ("fix none", "set price is \"none\"", NUMBER_OR_NONE),
+        ("trade 256 7 simple 12 at 5000", "buyer is \"256\"", BYTE),
+        ("trade 3 -7 simple 12 at 5000", "seller is \"-7\"", BYTE),
+        ("trade 3 7 swap 12 at 5000", "kind is \"swap\"", KIND),
         (
-            "minute times 3",
-            "the index is \"times\"; expected a number from 0 to 4294967295, or - for none",
+            "trade 3 7 simple 1.5 at 5000",
+            "quantity is \"1.5\"",
+            NUMBER,
         ),
-        (
-            "fix none",
-            "the set price is \"none\"; expected a number from 0 to 4294967295, or - for none",
-        ),
-        (
-            "trade 256 7 simple 12 at 200200",
-            "the buyer is \"256\"; expected a number from 0 to 255",
-        ),
-        (
-            "trade 3 -7 simple 12 at 200200",
-            "the seller is \"-7\"; expected a number from 0 to 255",
-        ),
-        (
-            "trade 3 7 swap 12 at 200200",
-            "the kind is \"swap\"; expected a number from 0 to 255, or simple, spread or block",
-        ),
-        (
-            "trade 3 7 simple 1.5 at 200200",
-            "the quantity is \"1.5\"; expected a number from 0 to 4294967295",
-        ),
-        (
-            "trade 3 7 simple 12 at -",
-            "the price is \"-\"; expected a number from 0 to 4294967295",
-        ),
-        (
-            "trade 3 7 simple 12 200200",
-            "\"200200\" before the price; expected the word at",
-        ),
-        (
-            "record 300",
-            "the tag is \"300\"; expected a number from 0 to 255",
-        ),
-        (
-            "record 9 0",
-            "\"0\" is no bytes; expected two hexadecimal digits for each",
-        ),
-        (
-            "bytes 0g",
-            "\"0g\" is no bytes; expected two hexadecimal digits for each",
-        ),
+        ("trade 3 7 simple 12 at -", "price is \"-\"", NUMBER),
+        ("record 300", "tag is \"300\"", BYTE),
+        ("halt times 0", "count after times is \"0\"", COUNT),
         (
             "halt times 1000001",
-            "the count after times is \"1000001\"; expected a number from 1 to 1000000",
-        ),
-        (
-            "halt times 0",
-            "the count after times is \"0\"; expected a number from 1 to 1000000",
+            "count after times is \"1000001\"",
+            COUNT,
         ),
     ] {
-        check(line, expected);
+        check(line, &format!("the {found}; {expected}"));
     }
+}
+
+#[test]
+fn wrong_words() {
+    check(
+        "trade 3 7 simple 12 200200",
+        "\"200200\" before the price; expected the word at",
+    );
+    check("record 9 0", &format!("\"0\" is no bytes; {HEXADECIMAL}"));
+    check("bytes 0g", &format!("\"0g\" is no bytes; {HEXADECIMAL}"));
 }
 
 #[test]
@@ -154,45 +123,41 @@ fn bodies_too_long() {
 
 #[test]
 fn order_of_lines() {
-    for (text, expected) in [
-        (
-            "",
-            "line 1: the text ends without a size; expected size and a number, or size missing",
-        ),
-        (
-            "# a\n\n# b\n",
-            "line 3: the text ends without a size; expected size and a number, or size missing",
-        ),
-        (
-            "\nquote 0 0\nhalt\n",
-            "line 2: no size before this line; expected size first",
-        ),
+    let no_size = "the text ends without a size; expected size and a number, or size missing";
+    let late_size = "no size before this line; expected size first";
+    let after_missing = "a line after size missing; expected none";
+    for (text, line, expected) in [
+        ("", 1, no_size),
+        ("# a\n\n# b\n", 3, no_size),
+        ("\nquote 0 0\nhalt\n", 2, late_size),
         (
             "size 1\nhalt\nsize 1\nhalt\n",
-            "line 3: a second size; expected only one",
+            3,
+            "a second size; expected only one",
         ),
-        (
-            "size missing\nhalt\nhalt\n",
-            "line 2: a line after size missing; expected none",
-        ),
+        ("size missing\nhalt\nhalt\n", 2, after_missing),
         (
             "size 1\nbytes 00\nhalt\nhalt\n",
-            "line 3: a line after bytes; expected none",
-        ),
-        (
-            "size\n",
-            "line 1: the size is missing; expected a number from 0 to 255, or missing",
-        ),
-        (
-            "size 256\nhalt\n",
-            "line 1: the size is \"256\"; expected a number from 0 to 255, or missing",
-        ),
-        (
-            "size 1 0\n",
-            "line 1: \"0\" is too much; expected the end of the line",
+            3,
+            "a line after bytes; expected none",
         ),
     ] {
-        assert_eq!(errors(text), [expected]);
+        assert_eq!(errors(text), [format!("line {line}: {expected}")]);
+    }
+}
+
+#[test]
+fn wrong_sizes() {
+    let size = "expected a number from 0 to 255, or missing";
+    for (text, expected) in [
+        ("size\n", format!("the size is missing; {size}")),
+        ("size 256\nhalt\n", format!("the size is \"256\"; {size}")),
+        (
+            "size 1 0\n",
+            "\"0\" is too much; expected the end of the line".to_string(),
+        ),
+    ] {
+        assert_eq!(errors(text), [format!("line 1: {expected}")]);
     }
 }
 
