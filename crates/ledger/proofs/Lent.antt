@@ -3,10 +3,10 @@
 --     step-within                     refusal 2 passes
 --     on-figures                      a call that touches no account, on the figures alone
 -- Assumes nothing.
-use mathlib.Core.Path.{_≡_, refl, sym, _∙_, ap}
+use mathlib.Core.Path.{_≡_, refl, _∙_, ap}
 use mathlib.Core.Bool.{Bool, true, false, cond}
 use mathlib.Core.List.{List}
-use Prim.Native.Nat.{ℕ, _+_, _*_, _<_, _≤_}
+use Prim.Native.Nat.{ℕ, _<_, _≤_}
 use native.Mathlib.Omega.{arith}
 use lib.Dec.{eqb}
 use lib.IntN.{ℤ, natAbs}
@@ -20,7 +20,7 @@ use Rattle.ledger.specs.Columns.{accounts, entry}
 use Rattle.ledger.specs.Effects.{figuresAfter, withFigures, effect}
 use Rattle.ledger.specs.Refusals.{refusalWithin, refusal}
 use Rattle.ledger.specs.Step.{step}
-use Rattle.ledger.specs.Inner.{bookOf, answerOf, outcome, figuresRefusal, answered, Exchangeable, Countable, Tradable, Fixable, Closable, WithinLimits}
+use Rattle.ledger.specs.Inner.{bookOf, answerOf, outcome, figuresRefusal, answered, Tradable, Fixable, Closable, WithinLimits}
 use Rattle.ledger.proofs.Held.{Held, held, figures-hold, contracts-most, size-most}
 
 module _ (b : Book) (w : WithinLimits accounts b) where

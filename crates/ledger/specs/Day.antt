@@ -1,8 +1,8 @@
 -- A trade date's numbers by name, and the rules of its minutes.
-use mathlib.Core.Bool.{Bool, false, not, cond, _&&_}
+use mathlib.Core.Bool.{Bool, not, cond, _&&_}
 use Prim.Native.Nat.{ℕ, _+_, _*_}
 use lib.Dec.{eqb}
-use lib.IntN.{ℤ, pos}
+use lib.IntN.{pos}
 use Rattle.integers.specs.declared.Tie.{Tie}
 use Rattle.integers.specs.declared.Tie.the-variants.{Even}
 use Rattle.funding.specs.declared.Terms.{Terms}

@@ -1,6 +1,6 @@
 -- Refusal 2: the limits on what a book holds, in document 01's order. A book is refused where one of them fails, and only then.
 use mathlib.Core.Bool.{Bool, not, _&&_, _||_}
-use Prim.Native.Nat.{ℕ, _+_, _*_}
+use Prim.Native.Nat.{ℕ, _*_}
 use lib.Dec.{leb, ltb, eqb}
 use lib.IntN.{ℤ, natAbs}
 use Rattle.funding.specs.declared.FinalMinute.{FinalMinute}

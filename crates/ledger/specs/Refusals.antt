@@ -1,5 +1,5 @@
 -- Refusals 2 to 9, in document 01's order: a number comes if its sentence is met, and only then.
-use mathlib.Core.Bool.{Bool, true, false, not, cond, _&&_, _||_}
+use mathlib.Core.Bool.{Bool, false, not, cond, _&&_, _||_}
 use mathlib.Core.List.{List}
 use Prim.Native.Nat.{ℕ}
 use lib.Dec.{leb, ltb, eqb}

@@ -5,7 +5,6 @@ use mathlib.Core.List.{_∷_, []}
 use lib.Dec.{leb}
 use borrow.Author.Needs.{needs}
 use borrow.Author.Tests.{leb-true}
-use Rattle.ledger.specs.declared.Figures.{Figures}
 use Rattle.ledger.specs.Opening.{isSize}
 use Rattle.ledger.specs.Limits.{noneOrPrice, dayHolds, figuresHold, withinLimits}
 use Rattle.ledger.proofs.Tests.{each}

@@ -1,7 +1,6 @@
 -- `ledger::Book::step` meets its contract: refusal 2, or the call on the book's columns. Assumes nothing.
 use mathlib.Core.Path.{_≡_, sym, _∙_}
-use mathlib.Core.Bool.{true, false}
-use lib.ListN.{length}
+use mathlib.Core.Bool.{false}
 use borrow.Author.Tests.{not-true, not-false}
 use borrow.Author.Needs.{needs}
 use Rattle.ledger.specs.Columns.{accounts}

@@ -1,6 +1,4 @@
 -- `ledger::Day::minutes_hold` meets its contract: the sum's limit is asked where the counts are within theirs. Assumes nothing.
-use mathlib.Core.Path.{_≡_, sym, _∙_, ap, ap₂}
-use mathlib.Core.Bool.{Bool, true, false, _&&_}
 use mathlib.Core.List.{_∷_, []}
 use native.Mathlib.Omega.{arith}
 use lib.Dec.{leb}
@@ -9,8 +7,6 @@ use mir.Val.{SFits}
 use mir.Facts.{toZ-ofZ}
 use borrow.Author.Needs.{needs}
 use borrow.Author.Tests.{leb-true}
-use Rattle.funding.specs.Minute.{weightedLimit}
-use Rattle.ledger.specs.Limits.{within}
 use Rattle.ledger.proofs.Tests.{each}
 use Rattle.ledger.proofs.Day.minutes_hold.Statement.{statement}
 use Rattle.ledger.proofs.Day.minutes_hold.Tie as tie

@@ -1,6 +1,6 @@
 -- `ledger::Day::traded` meets its contract: n and the gross have room. Assumes nothing.
 use mathlib.Core.Path.{_≡_, sym, _∙_, ap}
-use mathlib.Core.Bool.{_&&_, true, false}
+use mathlib.Core.Bool.{_&&_}
 use lib.Dec.{eqb}
 use borrow.Author.Needs.{needs}
 use Rattle.ledger.specs.Day.{isFinal}

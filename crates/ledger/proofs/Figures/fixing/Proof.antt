@@ -11,7 +11,7 @@ use borrow.Author.Needs.{needs}
 use Rattle.funding.proofs.Bounds.{clamped-size}
 use Rattle.funding.specs.Fixing.{rateOf, clampedTo}
 use Rattle.funding.specs.Terms.{standardTerms}
-use Rattle.ledger.specs.Effects.{rateAt, fixingAt}
+use Rattle.ledger.specs.Effects.{rateAt}
 use Rattle.ledger.proofs.Figures.fixing.Statement.{statement}
 use Rattle.ledger.proofs.Figures.fixing.Tie as tie
 

@@ -1,11 +1,10 @@
 -- `ledger::close::post` meets its contract. The loop's invariant: the accounts passed have their cash posted. Assumes nothing.
-use mathlib.Core.Path.{_≡_, sym, _∙_, ap, ap₂}
+use mathlib.Core.Path.{_≡_, _∙_, ap, ap₂}
 use mathlib.Core.List.{List, _∷_, []}
 use Prim.Native.Nat.{ℕ, _-_, _<_, _≤_}
 use native.Mathlib.Omega.{arith}
 use lib.IntN.{ℤ, pos, natAbs, _+ℤ_}
 use lib.ListN.{length, set}
-use mir.Facts.{toZ-ofZ}
 use borrow.Author.Needs.{needs}
 use Rattle.integers.proofs.Machine.{read-back}
 use Rattle.integers.proofs.Overflow.{arg, add, val, Within, _▹_, done, safe, runs}

@@ -1,40 +1,30 @@
+-- `ledger::limits::account_holds` meets its contract. Assumes nothing.
 use mir.Facts.{toZ-ofZ}
 use borrow.Author.Needs.{needs}
 use Rattle.ledger.proofs.limits.account_holds.Statement.{statement}
 use Rattle.ledger.proofs.limits.account_holds.Tie as tie
-use Rattle.ledger.proofs.limits.account_holds.Reads as reads
-use Rattle.ledger.proofs.limits.account_holds.Lts as lts
-use Rattle.ledger.proofs.limits.is_within.Reads as is-within-reads
 
--- src/limits.rt:144:5
 is-within-requires : tie.Need-is-within-requires
 is-within-requires c κs = search needs
 
--- src/limits.rt:145:11
 is-within-requires-2 : tie.Need-is-within-requires-2
 is-within-requires-2 c κs = search needs
 
--- src/limits.rt:147:38
 cast-is-within : tie.Need-cast-is-within
 cast-is-within c = search needs
 
--- src/limits.rt:147:27
 mul-is-within : tie.Need-mul-is-within
 mul-is-within c = search needs
 
--- src/limits.rt:147:11
 is-within-requires-3 : tie.Need-is-within-requires-3
 is-within-requires-3 c κs = search needs
 
--- src/limits.rt:148:27
 mul-is-within-2 : tie.Need-mul-is-within-2
 mul-is-within-2 c = search needs
 
--- src/limits.rt:148:11
 is-within-requires-4 : tie.Need-is-within-requires-4
 is-within-requires-4 c κs = search needs
 
--- src/limits.rt:133:1
 returns : tie.Need-returns
 returns c = let s = c .before .before .before .before in rw (c .before .before .before .is-within .ensures, c .before .before .is-within2 .ensures, c .before .is-within3 .ensures, c .is-within4 .ensures, toZ-ofZ (s .fits .opening), toZ-ofZ (s .fits .position), toZ-ofZ (s .fits .cost), toZ-ofZ (s .fits .cash))
 

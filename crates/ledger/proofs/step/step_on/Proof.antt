@@ -1,6 +1,5 @@
 -- `ledger::step::step_on` meets its contract, call by call. Assumes nothing.
-use mathlib.Core.Path.{_≡_, refl, sym, _∙_, ap}
-use Prim.Native.Nat.{_<_}
+use mathlib.Core.Path.{refl, sym, _∙_, ap}
 use mir.Syntax.{w8}
 use mir.Val.{Fits}
 use borrow.Author.Needs.{needs}

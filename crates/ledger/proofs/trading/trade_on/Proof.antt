@@ -1,12 +1,12 @@
 -- `ledger::trading::trade_on` meets its contract: the refusals in their order, or both accounts' entries changed and the day after the trade. Assumes nothing.
-use mathlib.Core.Path.{_≡_, sym, _∙_}
+use mathlib.Core.Path.{sym, _∙_}
 use mathlib.Core.Bool.{not}
 use Prim.Native.Nat.{_*_, _≤_}
 use native.Mathlib.Omega.{arith}
 use borrow.Author.Needs.{needs}
 use Rattle.ledger.specs.Columns.{accounts}
 use Rattle.ledger.specs.Effects.{fixingOf, effect}
-use Rattle.ledger.specs.Inner.{bookOf, tradeRefusal}
+use Rattle.ledger.specs.Inner.{bookOf}
 use Rattle.ledger.specs.Refusals.{orElse, notAllowed, haltForbids, outsideField, volumeStays, positionStays}
 use Rattle.ledger.specs.declared.Call.the-variants as call
 use Rattle.ledger.proofs.KeepingTrade.{TradeFields, trade-fields}
