@@ -1,0 +1,4 @@
+pub mod Reading
+pub mod Forward
+pub mod Calls
+pub mod Example

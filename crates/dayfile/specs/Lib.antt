@@ -1,0 +1,4 @@
+pub mod Record
+pub mod Forward
+pub mod Calls
+pub mod Example

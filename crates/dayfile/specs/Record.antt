@@ -1,0 +1,99 @@
+-- What stands at a place of a day file: the format of document 01, sentence by sentence.
+use Prim.Native.Nat.{ℕ, _+_, _*_}
+use mathlib.Core.List.{List}
+use mathlib.Core.Bool.{cond}
+use lib.ListN.{length, getD}
+use lib.Dec.{ltb, leb, eqb}
+use Rattle.ledger.specs.declared.Call.{Call}
+use Rattle.ledger.specs.declared.Call.the-variants as call
+use Rattle.ledger.specs.declared.Trade.{Trade}
+use Rattle.ledger.specs.declared.Market.{Market}
+use Rattle.dayfile.specs.declared.Tag.{Tag}
+use Rattle.dayfile.specs.declared.Tag.the-variants as tag
+use Rattle.dayfile.specs.declared.Tagged.{Tagged}
+use Rattle.dayfile.specs.declared.Tagged.the-variants as tagged
+use Rattle.dayfile.specs.declared.Read.{Read}
+use Rattle.dayfile.specs.declared.Read.the-variants as read
+
+-- a byte of a file; 0 past the file's end
+abbrev pub byteAt : List ℕ → ℕ → ℕ
+byteAt file at = getD file at 0
+
+-- numbers of two and of four bytes, "high byte first"
+abbrev pub twoBytes : List ℕ → ℕ → ℕ
+twoBytes file at = byteAt file at * 256 + byteAt file (at + 1)
+
+abbrev pub fourBytes : List ℕ → ℕ → ℕ
+fourBytes file at = twoBytes file at * 65536 + twoBytes file (at + 2)
+
+-- "Tag 1 trade: buyer 1 byte, seller 1, kind 1, quantity 4, price 4. Tag 2 quote: bid 4, offer 4. Tag 3 minute end: 4.
+-- Tag 4 halt, 5 resume, 7 close: 0 bytes. Tag 6 fix: 4. Other tags are unknown."
+unfoldable pub tagOf : ℕ → Tagged
+tagOf byte =
+    cond (eqb byte 1) (tagged.Known tag.Trade)
+    (cond (eqb byte 2) (tagged.Known tag.Quote)
+    (cond (eqb byte 3) (tagged.Known tag.MinuteEnd)
+    (cond (eqb byte 4) (tagged.Known tag.Halt)
+    (cond (eqb byte 5) (tagged.Known tag.Resume)
+    (cond (eqb byte 6) (tagged.Known tag.Fix)
+    (cond (eqb byte 7) (tagged.Known tag.Close)
+    tagged.Unknown))))))
+
+-- the bytes of each tag's body, added up
+abbrev pub bodyLength : Tag → ℕ
+bodyLength tag.Trade = 11
+bodyLength tag.Quote = 8
+bodyLength tag.MinuteEnd = 4
+bodyLength tag.Halt = 0
+bodyLength tag.Resume = 0
+bodyLength tag.Fix = 4
+bodyLength tag.Close = 0
+
+-- the trade, the quote and the call whose body starts at a place
+abbrev pub tradeAt : List ℕ → ℕ → Trade
+tradeAt file body = record {
+  buyer = byteAt file body;
+  seller = byteAt file (body + 1);
+  kind = byteAt file (body + 2);
+  quantity = fourBytes file (body + 3);
+  price = fourBytes file (body + 7);
+}
+
+abbrev pub quoteAt : List ℕ → ℕ → Market
+quoteAt file body = record { bid = fourBytes file body; offer = fourBytes file (body + 4) }
+
+abbrev pub callOf : List ℕ → Tag → ℕ → Call
+callOf file tag.Trade body = call.Trade (tradeAt file body)
+callOf file tag.Quote body = call.Quote (quoteAt file body)
+callOf file tag.MinuteEnd body = call.MinuteEnd (fourBytes file body)
+callOf file tag.Halt body = call.Halt
+callOf file tag.Resume body = call.Resume
+callOf file tag.Fix body = call.Fix (fourBytes file body)
+callOf file tag.Close body = call.Close
+
+-- "a one-byte tag, a two-byte length, a body": where the body starts, its stated length, and where the next record starts
+abbrev pub bodyAt : ℕ → ℕ
+bodyAt at = at + 3
+
+abbrev pub statedLength : List ℕ → ℕ → ℕ
+statedLength file at = twoBytes file (at + 1)
+
+abbrev pub nextAt : List ℕ → ℕ → ℕ
+nextAt file at = bodyAt at + statedLength file at
+
+-- a complete record with this tag. "a known tag has a wrong length, and its body is passed over";
+-- "The reader passes over complete unknown records"
+abbrev pub complete : List ℕ → ℕ → Tagged → Read
+complete file at tagged.Unknown = read.Unknown (nextAt file at)
+complete file at (tagged.Known t) =
+    cond (eqb (statedLength file at) (bodyLength t))
+    (read.Known (callOf file t (bodyAt at)) (nextAt file at))
+    (read.WrongLength (nextAt file at))
+
+-- "A file record is cut off by the end of the file", whatever its tag and length: it ends past the file's end. One or two bytes
+-- left over are cut off too, since tag and length already end past it.
+unfoldable pub readAt : List ℕ → ℕ → Read
+readAt file at =
+    cond (leb (length file) at) read.End
+    (cond (ltb (length file) (nextAt file at)) read.CutOff
+    (complete file at (tagOf (byteAt file at))))

@@ -1,0 +1,21 @@
+-- `host::shown::play` meets its contract. Assumes nothing.
+use borrow.Author.Needs.{needs}
+use Rattle.host.proofs.shown.play.Statement.{statement}
+use Rattle.host.proofs.shown.play.Tie as tie
+
+step-requires : tie.Need-step-requires
+step-requires c κs = search needs
+
+shown-by-requires : tie.Need-shown-by-requires
+shown-by-requires c κs = search needs
+
+returns : tie.Need-returns
+returns c = rw (c .before .shown-by .ensures, c .before .before .step .ensures)
+
+pub play-spec : {M : Type 1} → statement M
+play-spec =
+    tie.close
+    (tie.spec
+    step-requires
+    shown-by-requires
+    returns)

@@ -1,0 +1,35 @@
+-- What `funding-bench` prints for each record of a file.
+use mathlib.Core.Bool.{Bool, not, cond, _||_}
+use Prim.Native.Nat.{ℕ, _+_}
+use lib.Dec.{eqb}
+use lib.IntN.{ℤ, natAbs}
+use Rattle.ledger.specs.declared.Call.{Call}
+use Rattle.ledger.specs.declared.Call.the-variants as call
+use Rattle.ledger.specs.declared.Book.{Book}
+use Rattle.ledger.specs.declared.Answer.{Answer}
+use Rattle.ledger.specs.Columns.{accounts}
+use Rattle.ledger.specs.Step.{step}
+use Rattle.host.specs.declared.shown.Shown.{Shown}
+use Rattle.host.specs.declared.shown.Shown.the-variants as shown
+use Rattle.host.specs.declared.shown.Played.{Played}
+
+-- 01: "A fix prints the day counted from 1, P, clamped rate, amount and k. A close prints" the accounts. Other accepted calls print nothing.
+abbrev pub acceptedShown : Answer → Call → Shown
+acceptedShown a (call.Quote m) = shown.Nothing
+acceptedShown a (call.Trade t) = shown.Nothing
+acceptedShown a call.Halt = shown.Nothing
+acceptedShown a call.Resume = shown.Nothing
+acceptedShown a (call.MinuteEnd u) = shown.Nothing
+acceptedShown a (call.Fix set) = shown.Day (a .book .figures .closed + 1) (a .fixing)
+acceptedShown a call.Close = shown.Accounts
+
+-- 01: "A refused record prints `refused`, its number, `record`, its place from 1 (unknown ones count)"
+abbrev pub shownOf : Answer → Call → ℕ → Shown
+shownOf a c place = cond (eqb (a .code) 0) (acceptedShown a c) (shown.Refused (a .code) place)
+
+abbrev pub played : Book → Call → ℕ → Played
+played b c place = record { shown = shownOf (step accounts b c) c place; book = step accounts b c .book }
+
+-- 01: "account, position and total cash, rising by account, where either is nonzero"
+abbrev pub isShown : ℤ → ℤ → Bool
+isShown position cash = not (eqb (natAbs position) 0) || not (eqb (natAbs cash) 0)
