@@ -1,0 +1,140 @@
+//! The accepted calls since the opening, as lists. Nothing here is a running sum.
+
+use crate::call::{Call, Trade};
+use crate::rules::{Rules, Wrong};
+use crate::terms::ACCOUNTS;
+
+/// The accepted calls of one day, in order.
+#[derive(Clone, Debug, Default)]
+pub struct Day {
+    pub calls: Vec<Call>,
+    /// Places of the minute ends among the calls.
+    pub minute_ends: Vec<usize>,
+    /// Place of the fix among the calls.
+    pub fix: Option<usize>,
+}
+
+impl Day {
+    /// Adds an accepted call to the list.
+    pub fn add(&mut self, call: Call) {
+        let place = self.calls.len();
+        self.calls.push(call);
+        match call {
+            Call::MinuteEnd(_) => self.minute_ends.push(place),
+            Call::Fix(_) => self.fix = Some(place),
+            _ => {}
+        }
+    }
+
+    pub fn is_fixed(&self) -> bool {
+        self.fix.is_some()
+    }
+
+    pub fn set_price(&self) -> Option<u32> {
+        match self.calls[self.fix?] {
+            Call::Fix(set_price) => Some(set_price),
+            _ => None,
+        }
+    }
+
+    /// The index of a minute counted from 1.
+    pub fn index(&self, minute: usize) -> u32 {
+        match self.calls[self.minute_ends[minute - 1]] {
+            Call::MinuteEnd(index) => index,
+            _ => 0,
+        }
+    }
+
+    /// The calls between the minute end before a minute (counted from 1) and its own.
+    pub fn calls_of_minute(&self, minute: usize) -> &[Call] {
+        let end = self.minute_ends[minute - 1];
+        &self.calls[self.place_after_minute(minute - 1)..end]
+    }
+
+    pub fn place_after_minute(&self, minute: usize) -> usize {
+        match minute {
+            0 => 0,
+            _ => self.minute_ends[minute - 1] + 1,
+        }
+    }
+}
+
+/// A trade as one account's list keeps it.
+#[derive(Clone, Copy, Debug, PartialEq, Eq)]
+pub struct AccountTrade {
+    /// The day counted from 0.
+    pub day: usize,
+    pub after_fix: bool,
+    pub trade: Trade,
+}
+
+#[derive(Clone, Debug)]
+pub struct History {
+    pub size: u8,
+    /// The closed days and, last, the open one.
+    pub days: Vec<Day>,
+    /// Each account's trades, in order.
+    pub trades: Vec<Vec<AccountTrade>>,
+    /// Halts and resumes, each with its day.
+    pub halts: Vec<(usize, Call)>,
+}
+
+impl History {
+    pub fn new(size: u8) -> Self {
+        History {
+            size,
+            days: vec![Day::default()],
+            trades: vec![Vec::new(); ACCOUNTS],
+            halts: Vec::new(),
+        }
+    }
+
+    pub fn closed_days(&self) -> usize {
+        self.days.len() - 1
+    }
+
+    pub fn open_day(&self) -> &Day {
+        &self.days[self.closed_days()]
+    }
+
+    /// Adds an accepted call to the lists.
+    pub fn add(&mut self, call: Call) {
+        let day = self.closed_days();
+        self.days[day].add(call);
+        match call {
+            Call::Trade(trade) => self.add_trade(trade),
+            Call::Halt | Call::Resume => self.halts.push((day, call)),
+            Call::Close => self.days.push(Day::default()),
+            Call::Quote(_) | Call::MinuteEnd(_) | Call::Fix(_) => {}
+        }
+    }
+
+    fn add_trade(&mut self, trade: Trade) {
+        let account_trade = AccountTrade {
+            day: self.closed_days(),
+            after_fix: self.open_day().is_fixed(),
+            trade,
+        };
+        self.trades[usize::from(trade.buyer)].push(account_trade);
+        if !trade.is_with_oneself() {
+            self.trades[usize::from(trade.seller)].push(account_trade);
+        }
+    }
+
+    pub fn is_halted(&self, rules: Rules) -> bool {
+        let last = self.halts.last();
+        is_standing_halt(last, self.closed_days(), rules)
+    }
+
+    pub fn is_halted_at_start(&self, day: usize, rules: Rules) -> bool {
+        let earlier = self.halts.iter().rev().find(|(number, _)| *number < day);
+        is_standing_halt(earlier, day, rules)
+    }
+}
+
+fn is_standing_halt(last: Option<&(usize, Call)>, day: usize, rules: Rules) -> bool {
+    match last {
+        Some((of_day, Call::Halt)) => !(rules.breaks(Wrong::CloseDropsHalt) && *of_day < day),
+        _ => false,
+    }
+}
