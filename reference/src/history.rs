@@ -138,3 +138,97 @@ fn is_standing_halt(last: Option<&(usize, Call)>, day: usize, rules: Rules) -> b
         _ => false,
     }
 }
+
+#[cfg(test)]
+mod tests {
+    use super::*;
+    use crate::call::Market;
+
+    /// The separate lists hold what a walk over all calls finds.
+    #[test]
+    fn the_separate_lists_agree_with_the_calls() {
+        let history = sample();
+        for (number, day) in history.days.iter().enumerate() {
+            let places = |is: fn(&Call) -> bool| -> Vec<usize> {
+                (0..day.calls.len())
+                    .filter(|place| is(&day.calls[*place]))
+                    .collect()
+            };
+            assert_eq!(
+                day.minute_ends,
+                places(|call| matches!(call, Call::MinuteEnd(_)))
+            );
+            assert_eq!(
+                Vec::from_iter(day.fix),
+                places(|call| matches!(call, Call::Fix(_)))
+            );
+            let halts: Vec<Call> = day.calls.iter().copied().filter(is_halt).collect();
+            let listed = history.halts.iter().filter(|(of_day, _)| *of_day == number);
+            assert_eq!(halts, listed.map(|(_, call)| *call).collect::<Vec<Call>>());
+        }
+        for account in 0..=u8::MAX {
+            let walked = trades_by_walking(&history, account);
+            assert_eq!(history.trades[usize::from(account)], walked);
+        }
+        assert!(history.is_halted(Rules::right()));
+        assert!(history.is_halted_at_start(1, Rules::right()));
+        assert!(!history.is_halted_at_start(0, Rules::right()));
+    }
+
+    fn is_halt(call: &Call) -> bool {
+        matches!(call, Call::Halt | Call::Resume)
+    }
+
+    fn trades_by_walking(history: &History, account: u8) -> Vec<AccountTrade> {
+        let mut trades = Vec::new();
+        for (day, list) in history.days.iter().enumerate() {
+            for (place, call) in list.calls.iter().enumerate() {
+                let Call::Trade(trade) = *call else { continue };
+                if trade.buyer == account || trade.seller == account {
+                    let after_fix = list.calls[..place]
+                        .iter()
+                        .any(|call| matches!(call, Call::Fix(_)));
+                    trades.push(AccountTrade {
+                        day,
+                        after_fix,
+                        trade,
+                    });
+                }
+            }
+        }
+        trades
+    }
+
+    fn sample() -> History {
+        let trade = |buyer, seller| {
+            Call::Trade(Trade {
+                buyer,
+                seller,
+                kind: 0,
+                quantity: 1,
+                price: 5_000,
+            })
+        };
+        let day = [
+            Call::Quote(Market {
+                bid: 5_000,
+                offer: 5_010,
+            }),
+            trade(1, 2),
+            Call::MinuteEnd(5_000),
+            Call::MinuteEnd(0),
+            trade(2, 2),
+            Call::Fix(5_000),
+            trade(2, 3),
+            Call::Halt,
+            Call::Resume,
+            Call::Halt,
+            Call::Close,
+        ];
+        let mut history = History::new(1);
+        for call in day.iter().chain(&day[..10]) {
+            history.add(*call);
+        }
+        history
+    }
+}
