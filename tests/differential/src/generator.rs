@@ -5,6 +5,9 @@ use reference::writer::Writer;
 
 pub const MINUTES: usize = 1_320;
 
+/// The most minutes that the events of one minute may end themselves.
+const LONGEST_EVENTS: usize = 4;
+
 pub struct Generator {
     pub random: Random,
     pub file: Writer,
@@ -131,7 +134,7 @@ impl Generator {
     }
 
     /// A few calls of a minute with a market, now and then a halt.
-    pub fn busy_minute(&mut self) {
+    pub fn busy_minute(&mut self) -> usize {
         for _ in 0..self.random.between(1, 3) {
             match self.random.below(12) {
                 0..=5 => self.any_quote(),
@@ -147,6 +150,7 @@ impl Generator {
                 }
             }
         }
+        0
     }
 
     /// Minute ends with one index, mostly a price near the level.
@@ -158,18 +162,18 @@ impl Generator {
         self.file.minute_ends(count, index);
     }
 
-    /// The day's minutes from the first to `count`, with `before` called in some of them.
-    pub fn minutes(&mut self, count: usize, busy: usize, before: fn(&mut Self)) {
+    /// `count` minutes in all, with `events` called in some of them. It gives the number of
+    /// minutes that it ended itself.
+    pub fn minutes(&mut self, count: usize, busy: usize, events: fn(&mut Self) -> usize) {
         let mut left = count;
-        for _ in 0..busy.min(count) {
-            let quiet = self.random.below((2 * left / busy.max(1)) as u32 + 1) as usize;
-            let quiet = quiet.min(left.saturating_sub(1));
-            before(self);
-            self.quiet_minutes(quiet + 1);
-            left -= quiet + 1;
-            if left == 0 {
-                return;
+        for _ in 0..busy {
+            if left < LONGEST_EVENTS {
+                break;
             }
+            left -= events(self);
+            let quiet = self.random.below((2 * left / busy) as u32 + 1) as usize;
+            self.quiet_minutes(quiet.min(left));
+            left -= quiet.min(left);
         }
         self.quiet_minutes(left);
     }

@@ -25,7 +25,7 @@ pub fn few_valid_minutes(generator: &mut Generator) {
 }
 
 /// A market that ends with its minute, and perhaps a last trade within it.
-fn one_valid_minute(generator: &mut Generator) {
+fn one_valid_minute(generator: &mut Generator) -> usize {
     generator.tight_quote();
     if generator.random.chance(40) {
         generator.any_trade();
@@ -39,6 +39,7 @@ fn one_valid_minute(generator: &mut Generator) {
         false => generator.near_price(),
     };
     generator.file.minute_ends(1, index.min(50_000_000));
+    1
 }
 
 /// Days whose amount is a half penny, on both sides of zero.
@@ -79,7 +80,7 @@ fn disturbed_start(generator: &mut Generator, index: u32) {
 
 fn half_penny_fix(generator: &mut Generator, price: u32) {
     let accounts = generator.two_accounts();
-    let by_trade = price % 10 == 0 && generator.random.chance(50);
+    let by_trade = price.is_multiple_of(10) && generator.random.chance(50);
     if by_trade {
         generator.file.trade(accounts, 0, 2, price);
     }
@@ -101,7 +102,7 @@ pub fn spread_edges(generator: &mut Generator) {
     }
 }
 
-fn spread_edge(generator: &mut Generator) {
+fn spread_edge(generator: &mut Generator) -> usize {
     let unit = (generator.level / 4_000).clamp(2, 12_000) * 10;
     let (bid, offer) = match generator.random.below(4) {
         0 => (399 * unit - 10, 401 * unit),
@@ -120,6 +121,7 @@ fn spread_edge(generator: &mut Generator) {
     let index = generator.random.between(bid, offer);
     generator.file.minute_ends(1, index);
     generator.file.quote(0, 0);
+    1
 }
 
 /// One-sided markets, halts and resumes within and across minutes.
@@ -135,12 +137,16 @@ pub fn market_changes(generator: &mut Generator) {
     }
 }
 
-fn market_change(generator: &mut Generator) {
+fn market_change(generator: &mut Generator) -> usize {
+    let mut ended = 0;
     generator.file.resume();
     generator.tight_quote();
     for _ in 0..generator.random.between(1, 4) {
         match generator.random.below(8) {
-            0 => generator.quiet_minutes(1),
+            0 => {
+                generator.quiet_minutes(1);
+                ended += 1;
+            }
             1 | 2 => generator.one_sided_quote(),
             3 => generator.wide_quote(),
             4 => {
@@ -153,4 +159,5 @@ fn market_change(generator: &mut Generator) {
             _ => generator.tight_quote(),
         }
     }
+    ended
 }

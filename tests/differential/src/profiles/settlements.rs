@@ -77,9 +77,14 @@ pub fn many_days(generator: &mut Generator) {
             generator.any_trade();
         }
         let busy = generator.random.below(3) as usize;
-        generator.minutes(MINUTES, busy, Generator::tight_quote);
+        generator.minutes(MINUTES, busy, new_market);
         generator.fix_and_close();
     }
+}
+
+fn new_market(generator: &mut Generator) -> usize {
+    generator.tight_quote();
+    0
 }
 
 /// Trades that leave no position, no cash, or neither.
