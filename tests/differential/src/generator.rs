@@ -94,10 +94,18 @@ impl Generator {
         self.file.quote(bid - bid / 100 / 10 * 10, offer);
     }
 
+    /// A two-sided quote whose bid isn't below its offer.
+    pub fn crossed_quote(&mut self) {
+        let offer = self.near_ticked_price().min(49_999_000);
+        let above = self.random.pick(&[0, 10, 100]);
+        self.file.quote(offer + above, offer);
+    }
+
     pub fn any_quote(&mut self) {
-        match self.random.below(6) {
-            0 | 1 => self.one_sided_quote(),
-            2 => self.wide_quote(),
+        match self.random.below(12) {
+            0..=3 => self.one_sided_quote(),
+            4 | 5 => self.wide_quote(),
+            6 => self.crossed_quote(),
             _ => self.tight_quote(),
         }
     }
