@@ -1,0 +1,234 @@
+//! The accepted calls since the opening, as lists. Nothing here is a running sum.
+
+use crate::call::{Call, Trade};
+use crate::rules::{Rules, Wrong};
+use crate::terms::ACCOUNTS;
+
+/// The accepted calls of one day, in order.
+#[derive(Clone, Debug, Default)]
+pub struct Day {
+    pub calls: Vec<Call>,
+    /// Places of the minute ends among the calls.
+    pub minute_ends: Vec<usize>,
+    /// Place of the fix among the calls.
+    pub fix: Option<usize>,
+}
+
+impl Day {
+    /// Adds an accepted call to the list.
+    pub fn add(&mut self, call: Call) {
+        let place = self.calls.len();
+        self.calls.push(call);
+        match call {
+            Call::MinuteEnd(_) => self.minute_ends.push(place),
+            Call::Fix(_) => self.fix = Some(place),
+            _ => {}
+        }
+    }
+
+    pub fn is_fixed(&self) -> bool {
+        self.fix.is_some()
+    }
+
+    pub fn set_price(&self) -> Option<u32> {
+        match self.calls[self.fix?] {
+            Call::Fix(set_price) => Some(set_price),
+            _ => None,
+        }
+    }
+
+    /// The index of a minute counted from 1.
+    pub fn index(&self, minute: usize) -> u32 {
+        match self.calls[self.minute_ends[minute - 1]] {
+            Call::MinuteEnd(index) => index,
+            _ => 0,
+        }
+    }
+
+    /// The calls between the minute end before a minute (counted from 1) and its own.
+    pub fn calls_of_minute(&self, minute: usize) -> &[Call] {
+        let end = self.minute_ends[minute - 1];
+        &self.calls[self.place_after_minute(minute - 1)..end]
+    }
+
+    pub fn place_after_minute(&self, minute: usize) -> usize {
+        match minute {
+            0 => 0,
+            _ => self.minute_ends[minute - 1] + 1,
+        }
+    }
+}
+
+/// A trade as one account's list keeps it.
+#[derive(Clone, Copy, Debug, PartialEq, Eq)]
+pub struct AccountTrade {
+    /// The day counted from 0.
+    pub day: usize,
+    pub after_fix: bool,
+    pub trade: Trade,
+}
+
+#[derive(Clone, Debug)]
+pub struct History {
+    pub size: u8,
+    /// The closed days and, last, the open one.
+    pub days: Vec<Day>,
+    /// Each account's trades, in order.
+    pub trades: Vec<Vec<AccountTrade>>,
+    /// Halts and resumes, each with its day.
+    pub halts: Vec<(usize, Call)>,
+}
+
+impl History {
+    pub fn new(size: u8) -> Self {
+        History {
+            size,
+            days: vec![Day::default()],
+            trades: vec![Vec::new(); ACCOUNTS],
+            halts: Vec::new(),
+        }
+    }
+
+    pub fn closed_days(&self) -> usize {
+        self.days.len() - 1
+    }
+
+    pub fn open_day(&self) -> &Day {
+        &self.days[self.closed_days()]
+    }
+
+    /// Adds an accepted call to the lists.
+    pub fn add(&mut self, call: Call) {
+        let day = self.closed_days();
+        self.days[day].add(call);
+        match call {
+            Call::Trade(trade) => self.add_trade(trade),
+            Call::Halt | Call::Resume => self.halts.push((day, call)),
+            Call::Close => self.days.push(Day::default()),
+            Call::Quote(_) | Call::MinuteEnd(_) | Call::Fix(_) => {}
+        }
+    }
+
+    fn add_trade(&mut self, trade: Trade) {
+        let account_trade = AccountTrade {
+            day: self.closed_days(),
+            after_fix: self.open_day().is_fixed(),
+            trade,
+        };
+        self.trades[usize::from(trade.buyer)].push(account_trade);
+        if !trade.is_with_oneself() {
+            self.trades[usize::from(trade.seller)].push(account_trade);
+        }
+    }
+
+    pub fn is_halted(&self, rules: Rules) -> bool {
+        let last = self.halts.last();
+        is_standing_halt(last, self.closed_days(), rules)
+    }
+
+    pub fn is_halted_at_start(&self, day: usize, rules: Rules) -> bool {
+        let earlier = self.halts.iter().rev().find(|(number, _)| *number < day);
+        is_standing_halt(earlier, day, rules)
+    }
+}
+
+fn is_standing_halt(last: Option<&(usize, Call)>, day: usize, rules: Rules) -> bool {
+    match last {
+        Some((of_day, Call::Halt)) => !(rules.breaks(Wrong::CloseDropsHalt) && *of_day < day),
+        _ => false,
+    }
+}
+
+#[cfg(test)]
+mod tests {
+    use super::*;
+    use crate::call::Market;
+
+    /// The separate lists hold what a walk over all calls finds.
+    #[test]
+    fn the_separate_lists_agree_with_the_calls() {
+        let history = sample();
+        for (number, day) in history.days.iter().enumerate() {
+            let places = |is: fn(&Call) -> bool| -> Vec<usize> {
+                (0..day.calls.len())
+                    .filter(|place| is(&day.calls[*place]))
+                    .collect()
+            };
+            assert_eq!(
+                day.minute_ends,
+                places(|call| matches!(call, Call::MinuteEnd(_)))
+            );
+            assert_eq!(
+                Vec::from_iter(day.fix),
+                places(|call| matches!(call, Call::Fix(_)))
+            );
+            let halts: Vec<Call> = day.calls.iter().copied().filter(is_halt).collect();
+            let listed = history.halts.iter().filter(|(of_day, _)| *of_day == number);
+            assert_eq!(halts, listed.map(|(_, call)| *call).collect::<Vec<Call>>());
+        }
+        for account in 0..=u8::MAX {
+            let walked = trades_by_walking(&history, account);
+            assert_eq!(history.trades[usize::from(account)], walked);
+        }
+        assert!(history.is_halted(Rules::right()));
+        assert!(history.is_halted_at_start(1, Rules::right()));
+        assert!(!history.is_halted_at_start(0, Rules::right()));
+    }
+
+    fn is_halt(call: &Call) -> bool {
+        matches!(call, Call::Halt | Call::Resume)
+    }
+
+    fn trades_by_walking(history: &History, account: u8) -> Vec<AccountTrade> {
+        let mut trades = Vec::new();
+        for (day, list) in history.days.iter().enumerate() {
+            for (place, call) in list.calls.iter().enumerate() {
+                let Call::Trade(trade) = *call else { continue };
+                if trade.buyer == account || trade.seller == account {
+                    let after_fix = list.calls[..place]
+                        .iter()
+                        .any(|call| matches!(call, Call::Fix(_)));
+                    trades.push(AccountTrade {
+                        day,
+                        after_fix,
+                        trade,
+                    });
+                }
+            }
+        }
+        trades
+    }
+
+    fn sample() -> History {
+        let trade = |buyer, seller| {
+            Call::Trade(Trade {
+                buyer,
+                seller,
+                kind: 0,
+                quantity: 1,
+                price: 5_000,
+            })
+        };
+        let day = [
+            Call::Quote(Market {
+                bid: 5_000,
+                offer: 5_010,
+            }),
+            trade(1, 2),
+            Call::MinuteEnd(5_000),
+            Call::MinuteEnd(0),
+            trade(2, 2),
+            Call::Fix(5_000),
+            trade(2, 3),
+            Call::Halt,
+            Call::Resume,
+            Call::Halt,
+            Call::Close,
+        ];
+        let mut history = History::new(1);
+        for call in day.iter().chain(&day[..10]) {
+            history.add(*call);
+        }
+        history
+    }
+}

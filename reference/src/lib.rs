@@ -1,0 +1,98 @@
+//! A reference funding ledger, written from document 01 alone.
+//!
+//! It keeps the lists of accepted calls and works every figure out from them with exact
+//! fractions, so that it shares no structure with a ledger that steps a book.
+
+pub mod accounts;
+pub mod call;
+pub mod file;
+pub mod fraction;
+pub mod history;
+pub mod minutes;
+pub mod play;
+pub mod printout;
+pub mod refusal;
+pub mod rules;
+pub mod settlement;
+pub mod terms;
+pub mod writer;
+
+use play::play;
+use rules::{Rules, Wrong};
+use terms::{ACCOUNTS, BENCH_INPUT_LIMIT};
+
+/// Positions and cash of all accounts.
+pub type Lists = ([i64; ACCOUNTS], [i64; ACCOUNTS]);
+
+#[derive(Clone, Debug, PartialEq, Eq)]
+pub struct Outcome {
+    pub accepted: u64,
+    pub positions: [i64; ACCOUNTS],
+    pub cash: [i64; ACCOUNTS],
+    pub lines: Vec<String>,
+}
+
+/// A run over records, with all that it shows.
+pub fn run(size: u8, records: &[u8]) -> Outcome {
+    let rules = Rules::right();
+    let (accepted, lists) = c_run_under(rules, size, records);
+    let (positions, cash) = lists.unwrap_or(([0; ACCOUNTS], [0; ACCOUNTS]));
+    Outcome {
+        accepted,
+        positions,
+        cash,
+        lines: printout::run_lines(size, records, rules),
+    }
+}
+
+/// What `funding-bench` prints for this standard input.
+pub fn bench(input: &[u8]) -> String {
+    bench_under(Rules::right(), input)
+}
+
+pub fn bench_under(rules: Rules, input: &[u8]) -> String {
+    let limit = BENCH_INPUT_LIMIT + usize::from(rules.breaks(Wrong::InputLimitWithoutSize));
+    let (size, records) = size_and_records(&input[..input.len().min(limit)]);
+    let mut text = printout::run_lines(size, records, rules).join("\n");
+    text.push('\n');
+    text
+}
+
+/// The size byte, 0 when missing, and the records after it.
+pub fn size_and_records(input: &[u8]) -> (u8, &[u8]) {
+    input
+        .split_first()
+        .map_or((0, &[]), |(size, records)| (*size, records))
+}
+
+/// The run offered to C: accepted records, and the lists unless they stay untouched.
+pub fn c_run(size: u8, file: &[u8]) -> (u64, Option<Lists>) {
+    c_run_under(Rules::right(), size, file)
+}
+
+pub fn c_run_under(rules: Rules, size: u8, file: &[u8]) -> (u64, Option<Lists>) {
+    match play(size, file, rules) {
+        None => (0, None),
+        Some(played) => {
+            let accepted = played.accepted();
+            let untouched = accepted == 0 && rules.breaks(Wrong::NothingAcceptedUntouched);
+            (accepted, Some(played.report()).filter(|_| !untouched))
+        }
+    }
+}
+
+/// What a program that links the C library prints: size byte and file on standard input.
+pub fn library_printout_under(rules: Rules, input: &[u8]) -> String {
+    let (size, file) = size_and_records(input);
+    let (accepted, lists) = c_run_under(rules, size, file);
+    let mut text = format!("accepted {accepted}\n");
+    match lists {
+        None => text.push_str("untouched\n"),
+        Some((positions, cash)) => {
+            for (position, cash) in positions.iter().zip(cash) {
+                text.push_str(&format!("{position} {cash}\n"));
+            }
+        }
+    }
+    text
+}

@@ -1,0 +1,82 @@
+//! The generated inputs tell every wrong ledger from the right one and meet every refusal.
+
+use differential::profiles::{input, long_input};
+use reference::rules::{Rules, Wrong};
+use reference::{bench, bench_under, library_printout_under};
+
+const FILES: u64 = 1_000;
+
+/// How often a wrong ledger was told apart, and at which seed first.
+#[derive(Clone, Copy, Default)]
+struct Bites {
+    files: u64,
+    first: Option<u64>,
+}
+
+fn differs(wrong: Wrong, input: &[u8], bench: &str, library: &str) -> bool {
+    let rules = Rules::wrong_in(wrong);
+    bench_under(rules, input) != bench || library_printout_under(rules, input) != library
+}
+
+/// The bites of every second seed, for each wrong ledger.
+fn bites(from: u64) -> Vec<Bites> {
+    let mut bites = vec![Bites::default(); Wrong::ALL.len()];
+    for seed in (from..FILES).step_by(2) {
+        let input = input(seed).bytes;
+        let (bench, library) = (
+            bench(&input),
+            library_printout_under(Rules::right(), &input),
+        );
+        for (wrong, bites) in Wrong::ALL.iter().zip(&mut bites) {
+            if differs(*wrong, &input, &bench, &library) {
+                bites.files += 1;
+                bites.first.get_or_insert(seed);
+            }
+        }
+    }
+    bites
+}
+
+/// A ledger with another limit of days differs only in a file of more than 2,600 days.
+fn differs_in_a_long_file(wrong: Wrong) -> bool {
+    let input = long_input(0).bytes;
+    let right = library_printout_under(Rules::right(), &input);
+    library_printout_under(Rules::wrong_in(wrong), &input) != right
+}
+
+#[test]
+fn every_wrong_ledger_is_told_apart() {
+    let other = std::thread::spawn(|| bites(1));
+    let even = bites(0);
+    let odd = other.join().expect("the odd seeds are played");
+    let mut never = Vec::new();
+    for (wrong, (even, odd)) in Wrong::ALL.iter().zip(even.iter().zip(&odd)) {
+        let first = even.first.into_iter().chain(odd.first).min();
+        match first {
+            Some(seed) => println!(
+                "{:>5} first {seed:>3} {}",
+                even.files + odd.files,
+                wrong.name()
+            ),
+            None if differs_in_a_long_file(*wrong) => println!(" long file {}", wrong.name()),
+            None => never.push(wrong.name()),
+        }
+    }
+    assert!(never.is_empty(), "never told apart: {never:?}");
+}
+
+#[test]
+fn every_refusal_of_a_file_is_met() {
+    let mut files = [0; 11];
+    for seed in 0..FILES / 4 {
+        let printout = bench(&input(seed).bytes);
+        for (number, files) in files.iter_mut().enumerate() {
+            *files += usize::from(printout.contains(&format!("refused {number} record")));
+        }
+    }
+    println!("files by refusal number: {files:?}");
+    for (number, files) in files.iter().enumerate() {
+        let can_be_met = [1, 3, 4, 5, 6, 7, 8, 9].contains(&number);
+        assert_eq!(*files > 0, can_be_met, "refusal {number}");
+    }
+}
