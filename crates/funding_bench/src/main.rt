@@ -1,0 +1,79 @@
+// funding-bench: reads a size and records from standard input and prints what they do. What is printed is decided in crate
+// host (shown); here it is written out.
+use dayfile::Read;
+use host::shown::play;
+use ledger::Book;
+use ledger::product::Product;
+use libc::STDIN_FILENO;
+use libc::STDOUT_FILENO;
+
+mod lines;
+
+// The size; a missing one counts as 0.
+fn size_of(input: &[u8]) -> u32 {
+    if input.len() == 0 { 0 } else { input[0] as u32 }
+}
+
+fn records_of(input: &[u8]) -> &[u8] {
+    if input.len() == 0 {
+        &input[..0]
+    } else {
+        &input[1..]
+    }
+}
+
+// Plays the records of a file, up to its end or a record that is cut off.
+fn play_records(opened: Book, file: &[u8]) {
+    let mut book = opened;
+    let mut at: usize = 0;
+    let mut place: u64 = 1;
+    loop {
+        let following = place + 1;
+        match dayfile::read_record(file, at) {
+            Read::End => {
+                return;
+            }
+            Read::CutOff => {
+                lines::refused(1, place);
+                return;
+            }
+            Read::Known(call, next) => {
+                let played = play(book, call, place);
+                let after = played.book;
+                let shown = played.shown;
+                lines::print(shown, after);
+                book = after;
+                at = next;
+                place = following;
+            }
+            Read::WrongLength(next) => {
+                lines::refused(1, place);
+                at = next;
+                place = following;
+            }
+            Read::Unknown(next) => {
+                at = next;
+                place = following;
+            }
+        }
+    }
+}
+
+fn bench(input: &[u8]) {
+    let opened = Product::opening(size_of(input));
+    let code = opened.code;
+    if code != 0 {
+        lines::refused(code, 0);
+        return;
+    }
+    let book = opened.book;
+    play_records(book, records_of(input));
+}
+
+// The buffer holds 65,536 bytes: only those count, as if the input ended there.
+fn main() {
+    let mut input = io::large_buffer();
+    let n = io::read_full(STDIN_FILENO, &mut input);
+    bench(&input[..n]);
+    io::write_all(STDOUT_FILENO, b"end\n");
+}
