@@ -20,10 +20,10 @@ use Rattle.integers.proofs.Rounding.{rounded-le, nearest-le, nearest-ge}
 use Rattle.funding.specs.declared.Terms.{Terms}
 use Rattle.funding.specs.declared.FinalMinute.{FinalMinute}
 use Rattle.funding.specs.declared.Previous.{Previous}
-use Rattle.funding.specs.Price.{isPrice, isGiven}
+use Rattle.funding.specs.Price.{isPrice, isGiven, noneOrPrice}
 use Rattle.funding.specs.Minute.{futuresPrice, basisOf, accrued, weightedLimit, Accrues}
 use Rattle.funding.specs.Fixing.{clampedTo, amountOf, averagePrice, indexPrice, settlementPrice}
-use Rattle.funding.proofs.Tests.{by-test, both-true, price-to, price-by, noneOrPrice, none-or-price, the-price}
+use Rattle.funding.proofs.Tests.{by-test, both-true, price-to, price-by, none-or-price, the-price}
 
 -- ---- a minute's figures
 

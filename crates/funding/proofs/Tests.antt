@@ -3,7 +3,7 @@
 --     by-test           what holds of both results of a test holds of its result
 --     both-true         each half of a test that holds
 --     price-to, price-by     a price lies between the least and the largest
---     noneOrPrice       0, for none, or a price: a price is, and what is given and is, is a price
+--     none-or-price     a price is 0 or a price;  the-price  what is given and is one of the two is a price
 -- Assumes nothing.
 use mathlib.Core.Path.{_≡_, refl, sym, _∙_, ap, ap₂}
 use mathlib.Core.Bool.{Bool, true, false, cond, _&&_, _||_, true≢false, or-true}
@@ -11,7 +11,7 @@ use Prim.Native.Nat.{ℕ, _≤_}
 use native.Mathlib.Omega.{arith}
 use lib.Dec.{leb, eqb}
 use borrow.Author.Tests.{leb-true, leb-false, le-leb, not-true}
-use Rattle.funding.specs.Price.{isPrice, isGiven}
+use Rattle.funding.specs.Price.{isPrice, isGiven, noneOrPrice}
 
 pub leb-same : (a b c d : ℕ) → (a ≤ b → c ≤ d) → (c ≤ d → a ≤ b) → leb a b ≡ leb c d
 leb-same a b c d f g = go (leb a b) (leb c d) refl refl
@@ -35,10 +35,6 @@ price-to p h = let k = both-true (leb 5000 p) (leb p 50000000) h in (leb-true 50
 
 pub price-by : (p : ℕ) → 5000 ≤ p → p ≤ 50000000 → isPrice p ≡ true
 price-by p l h = ap₂ _&&_ (le-leb 5000 p l) (le-leb p 50000000 h)
-
--- 0, for none, or a price
-abbrev pub noneOrPrice : ℕ → Bool
-noneOrPrice p = eqb p 0 || isPrice p
 
 pub none-or-price : (p : ℕ) → isPrice p ≡ true → noneOrPrice p ≡ true
 none-or-price p h = ap (λ t. eqb p 0 || t) h ∙ or-true (eqb p 0)

@@ -5,7 +5,7 @@ use mathlib.Core.Bool.{Bool, true, false, cond}
 use mathlib.Core.List.{List, _∷_}
 use Prim.Native.Nat.{ℕ, zero, suc, _+_, _<_}
 use native.Mathlib.Omega.{arith}
-use native.Mathlib.Nat.{not-suc-le-zero, le-of-suc-le-suc, add-zero}
+use native.Mathlib.Nat.{add-zero}
 use lib.Dec.{T, eqb, eqb→eq, eqb-refl}
 use lib.IntN.{ℤ, pos, _+ℤ_, +ℤ-idr}
 use lib.ListN.{getD, set, replicate}
@@ -16,12 +16,6 @@ module _ {A : Type 0} where
   unfolding table
   table-ext zero f g e = refl
   table-ext (suc n) f g e = ap₂ (λ (x : A) (l : List A). x ∷ l) (e 0 (omega arith)) (table-ext n (λ j. f (suc j)) (λ j. g (suc j)) (λ j h. e (suc j) (omega arith)))
-
-  pub entry-table : (n j : ℕ) (f : ℕ → A) (d : A) → j < n → getD (table n f) j d ≡ f j
-  unfolding table
-  entry-table zero j f d h = absurd (not-suc-le-zero h)
-  entry-table (suc n) zero f d h = refl
-  entry-table (suc n) (suc j) f d h = entry-table n j (λ j. f (suc j)) d (le-of-suc-le-suc h)
 
   pub replicate-table : (n : ℕ) (x : A) → replicate n x ≡ table n (λ j. x)
   unfolding table

@@ -8,10 +8,10 @@ use lib.IntN.{pos}
 use Rattle.ledger.specs.declared.Book.{Book}
 use Rattle.ledger.specs.Columns.{entry}
 use Rattle.ledger.specs.Opening.{isSize, fresh, opening}
+use Rattle.ledger.proofs.Columns.{table-at}
 use Rattle.history.specs.History.{closings}
 use Rattle.history.specs.Figures.{net, cashOf}
 use Rattle.history.specs.Demand3.{history, total, DemandThree}
-use Rattle.history.proofs.Columns.{entry-table}
 use Rattle.history.proofs.Kept.{bookOf, fresh-is}
 use Rattle.history.proofs.Accepted.{Ran, ran}
 use Rattle.history.proofs.Days.{calls-of, closes-accepted, whole}
@@ -30,8 +30,8 @@ demand-three n s cs e =
     let r = subst (λ (b : Book). Ran n s b [] cs) (sym (opened n s e)) (ran n s [] cs tt) in
     let h = history n s cs in
     record {
-      cash = λ j k. ap (λ (b : Book). entry (b .cash) j) (r .book-is) ∙ entry-table n j (cashOf s h) (pos 0) k;
-      position = λ j k. ap (λ (b : Book). entry (b .position) j) (r .book-is) ∙ entry-table n j (net h) (pos 0) k;
+      cash = λ j k. ap (λ (b : Book). entry (b .cash) j) (r .book-is) ∙ table-at n (cashOf s h) j (pos 0) k;
+      position = λ j k. ap (λ (b : Book). entry (b .position) j) (r .book-is) ∙ table-at n (net h) j (pos 0) k;
       positions-cancel = ap (λ (b : Book). total (b .position)) (r .book-is) ∙ net-cancels n s h (r .all-accepted);
       cash-cancels = ap (λ (b : Book). total (b .cash)) (r .book-is) ∙ cash-cancels n s h (r .all-accepted);
       calls-of-days = calls-of h;

@@ -20,9 +20,10 @@ use Rattle.ledger.specs.Columns.{raise, raiseCount, table}
 use Rattle.ledger.specs.Day.{emptyDay, isFinal, minuteOf}
 use Rattle.ledger.specs.Opening.{fresh}
 use Rattle.ledger.specs.Effects.{traded, minuteEnded, figuresAfter, exchanged, counted, posting, cashAfter, effect}
+use Rattle.ledger.proofs.Columns.{table-at}
 use Rattle.history.specs.History.{History, halted, market, minuteMarket, last, closings, today, closedPart, withIf, trades, minuteEnds, fixes, minutes, endsValid, validOf, validMinutes, finalTrades}
 use Rattle.history.specs.Figures.{sumCount, sum, finalMinute, indexOf, indexOn, atFix, previousOf, priceOn, lastPrice, amountOn, at, signed, net, yield, paid, cashOf}
-use Rattle.history.proofs.Columns.{table-ext, entry-table, replicate-table, raise-table, raiseCount-table}
+use Rattle.history.proofs.Columns.{table-ext, replicate-table, raise-table, raiseCount-table}
 
 -- ---- the book of a history
 
@@ -163,7 +164,7 @@ unfolding closings closedPart previousOf trades sum
 cash-closed n s h j k =
     let before = closedPart (closings h) in
     let paidBefore = sum (paid s j) (closings h) in
-    cc (entry-table n j (cashOf s h) (pos 0) k, entry-table n j (net h) (pos 0) k, entry-table n j (net before) (pos 0) k, entry-table n j (costOf h) (pos 0) k)
+    cc (table-at n (cashOf s h) j (pos 0) k, table-at n (net h) j (pos 0) k, table-at n (net before) j (pos 0) k, table-at n (costOf h) j (pos 0) k)
     ∙ ap (λ z. z +ℤ paidBefore +ℤ posting (figuresOf s h) (net h j) (net before j) (costOf h j)) (gains s (lastPrice h) j (trades before))
     ∙ telescope (net h j) (pos (priceOn h)) (worth h j) (net before j) (pos (lastPrice h)) (worth before j) (pos s) paidBefore (amountOn s h)
     ∙ ap (λ z. z +ℤ (paidBefore +ℤ paid s j h)) (sym (gains s (priceOn h) j (trades h)))

@@ -4,7 +4,8 @@ use Prim.Native.Nat.{ℕ, _*_}
 use lib.Dec.{leb, ltb, eqb}
 use lib.IntN.{ℤ, natAbs}
 use Rattle.funding.specs.declared.FinalMinute.{FinalMinute}
-use Rattle.funding.specs.Price.{isPrice, isTicked}
+use Rattle.funding.specs.Price.{isTicked}
+pub use Rattle.funding.specs.Price.{noneOrPrice}
 use Rattle.funding.specs.Minute.{weightedLimit}
 use Rattle.ledger.specs.declared.Market.{Market}
 use Rattle.ledger.specs.declared.Day.{Day}
@@ -13,10 +14,6 @@ use Rattle.ledger.specs.declared.Book.{Book}
 use Rattle.ledger.specs.Columns.{entry, countAt, allBelow, sumBelow}
 use Rattle.ledger.specs.Day.{dayLength, mostDays, twoSided, isFixed}
 use Rattle.ledger.specs.Opening.{isSize}
-
--- "0 or a price"
-abbrev pub noneOrPrice : ℕ → Bool
-noneOrPrice p = eqb p 0 || isPrice p
 
 -- "0 or ticked"
 abbrev pub noneOrTicked : ℕ → Bool
