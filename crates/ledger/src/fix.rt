@@ -42,7 +42,7 @@ impl Figures {
         }
     }
 
-    pub fn fix(self, set: u32) -> Outcome
+    pub(crate) fn fix(self, set: u32) -> Outcome
         requires { ⌜ Fixable self ⌝ }
         ensures { λ r. ⌜ r ≡ outcome self (figuresRefusal accounts self (Call.Fix set)) (Call.Fix set) ⌝ }
     {

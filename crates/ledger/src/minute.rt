@@ -78,7 +78,7 @@ impl Figures {
     }
 
     // Figures within their limits are asked, so that the weighted sum fits.
-    pub fn minute_end(self, index: u32) -> Outcome
+    pub(crate) fn minute_end(self, index: u32) -> Outcome
         requires { ⌜ figuresHold self ≡ true ⌝ }
         ensures { λ r. ⌜ r ≡ outcome self (figuresRefusal accounts self (Call.MinuteEnd index)) (Call.MinuteEnd index) ⌝ }
     {

@@ -1,7 +1,5 @@
 // Quotes, halts and resumptions: the calls that touch the market alone.
 ghost use mathlib.Core.Path.{_≡_};
-ghost use mathlib.Core.Bool.{Bool};
-ghost use Prim.Native.Nat.{ℕ};
 ghost use Rattle.ledger.specs.Columns.{accounts};
 ghost use Rattle.ledger.specs.Day.{asMinute};
 ghost use Rattle.ledger.specs.Effects.{withMarkets, quoted};
@@ -26,7 +24,7 @@ pub fn or_else(met: bool, number: u8, rest: u8) -> u8
 }
 
 impl Figures {
-    pub fn refused(self, code: u8) -> Outcome
+    pub(crate) fn refused(self, code: u8) -> Outcome
         ensures { λ r. ⌜ r ≡ Inner·refused self code ⌝ }
     {
         Outcome {
@@ -36,7 +34,7 @@ impl Figures {
         }
     }
 
-    pub fn accepted(self) -> Outcome
+    pub(crate) fn accepted(self) -> Outcome
         ensures { λ r. ⌜ r ≡ Inner·accepted self ⌝ }
     {
         Outcome {
@@ -47,13 +45,13 @@ impl Figures {
     }
 
     // Whether the book has all the closed days that it may have, which allows no call.
-    pub fn is_full(self) -> bool
+    pub(crate) fn is_full(self) -> bool
         ensures { λ r. ⌜ r ≡ isFull self ⌝ }
     {
         MOST_DAYS <= self.closed
     }
 
-    pub fn quote(self, market: Market) -> Outcome
+    pub(crate) fn quote(self, market: Market) -> Outcome
         ensures { λ r. ⌜ r ≡ outcome self (figuresRefusal accounts self (Call.Quote market)) (Call.Quote market) ⌝ }
     {
         let unticked = !(none_or_ticked(market.bid) & none_or_ticked(market.offer));
@@ -68,7 +66,7 @@ impl Figures {
         after.accepted()
     }
 
-    pub fn halt(self) -> Outcome
+    pub(crate) fn halt(self) -> Outcome
         ensures { λ r. ⌜ r ≡ outcome self (figuresRefusal accounts self Call.Halt) Call.Halt ⌝ }
     {
         let code = or_else(self.is_full(), 3, or_else(self.halted, 4, 0));
@@ -81,7 +79,7 @@ impl Figures {
         after.accepted()
     }
 
-    pub fn resume(self) -> Outcome
+    pub(crate) fn resume(self) -> Outcome
         ensures { λ r. ⌜ r ≡ outcome self (figuresRefusal accounts self Call.Resume) Call.Resume ⌝ }
     {
         let code = or_else(self.is_full(), 3, or_else(!self.halted, 4, 0));
