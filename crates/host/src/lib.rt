@@ -7,7 +7,7 @@ ghost use lib.ListN.{length};
 ghost use Rattle.ledger.specs.Columns.{accounts};
 ghost use Rattle.ledger.specs.Inner.{bookOf, WithinLimits};
 ghost use Rattle.dayfile.specs.Calls.{callsOf};
-ghost use Rattle.host.specs.Run.{ranOver, taken, acceptedRecords, reportedPositions, reportedCash, FromBytes};
+ghost use Rattle.host.specs.Run.{ranOver, acceptedRecords, reportedPositions, reportedCash, FromBytes};
 use dayfile::Read;
 use ledger::ACCOUNTS;
 use ledger::Book;

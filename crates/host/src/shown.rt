@@ -1,6 +1,5 @@
 // What the bench prints, as a value for each record: the program is left with writing its digits.
 ghost use mathlib.Core.Path.{_≡_};
-ghost use Rattle.ledger.specs.Columns.{accounts};
 ghost use Rattle.ledger.specs.Step.{step};
 ghost use Rattle.host.specs.Shown.{shownOf, played, isShown};
 use ledger::Answer;

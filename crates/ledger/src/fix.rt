@@ -1,6 +1,5 @@
 // The fix of a day's settlement price and funding amount.
 ghost use mathlib.Core.Path.{_≡_};
-ghost use mathlib.Core.Bool.{true};
 ghost use Rattle.ledger.specs.Columns.{accounts};
 ghost use Rattle.ledger.specs.Effects.{fixed, fixingAt};
 ghost use Rattle.ledger.specs.Inner.{outcome, figuresRefusal, Fixable};

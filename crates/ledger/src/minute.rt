@@ -2,9 +2,8 @@
 ghost use mathlib.Core.Path.{_≡_};
 ghost use mathlib.Core.Bool.{cond};
 ghost use Prim.Native.Nat.{_+_, _≤_};
-ghost use Rattle.funding.specs.Minute.{basisOf, accrued};
 ghost use Rattle.ledger.specs.Columns.{accounts};
-ghost use Rattle.ledger.specs.Day.{termsOn, inLastMinute, isValid, minuteOf};
+ghost use Rattle.ledger.specs.Day.{termsOn, inLastMinute, isValid};
 ghost use Rattle.ledger.specs.Effects.{minuteEnded, weightedAfter};
 ghost use Rattle.ledger.specs.Inner.{outcome, figuresRefusal, Endable};
 ghost use Rattle.ledger.specs.Limits.{figuresHold};

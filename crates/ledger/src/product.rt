@@ -3,7 +3,7 @@ ghost use mathlib.Core.Path.{_≡_};
 ghost use Rattle.funding.specs.Terms.{standardTerms};
 ghost use Rattle.ledger.specs.Columns.{accounts};
 ghost use Rattle.ledger.specs.Day.{noMarket, emptyDay};
-ghost use Rattle.ledger.specs.Opening.{isSize, fresh, noFixing};
+ghost use Rattle.ledger.specs.Opening.{fresh, noFixing};
 ghost use Rattle.ledger.specs.Opening.{opening as Opening·opening};
 use crate::ACCOUNTS;
 use crate::Answer;
