@@ -6,6 +6,7 @@ use ledger::Book;
 use ledger::Day;
 use ledger::Figures;
 use ledger::Market;
+use ledger::product::Product;
 
 // One account's entries.
 pub struct Account {
@@ -72,6 +73,12 @@ pub fn of_figures(figures: Figures) -> Book {
 
 pub fn empty(size: u32) -> Book {
     of_figures(empty_figures(size))
+}
+
+// The book of an accepted opening.
+pub fn opened() -> Book {
+    let answer = Product::opening(10);
+    answer.book
 }
 
 // A book of size 10 with this day.

@@ -3,11 +3,16 @@
 mod books;
 mod calls;
 mod changes;
+mod halts;
+mod opening;
 mod print;
 mod turn;
 
 fn main() {
-    turn::row(books::empty(10));
-    let book = turn::turn(b"first ", books::empty(10), calls::quote(200_100, 200_300));
-    turn::minutes(b"then ", book, 3, 200_000);
+    opening::cases();
+    opening::rows();
+    halts::rows();
+    halts::during_the_day();
+    halts::at_the_end();
+    halts::with_a_market();
 }

@@ -1,4 +1,5 @@
 // One call, or one row of calls, on a book, printed with its answer.
+use crate::books::opened;
 use crate::calls::made;
 use crate::calls::print_call;
 use crate::calls::quote;
@@ -53,12 +54,16 @@ pub fn print_answer(before: Book, answer: Answer) {
 }
 
 // Makes the call, prints its line and hands the book back.
-pub fn turn(name: &[u8], book: Book, call: Call) -> Book {
-    text(name);
+pub fn turn(book: Book, call: Call) -> Book {
     print_call(call);
     let answer = made(book, call);
     print_answer(book, answer);
     answer.book
+}
+
+// The call on an opened book.
+pub fn on_opened(call: Call) {
+    turn(opened(), call);
 }
 
 // Makes the call, prints its number, and answers whether a refusal left the book the same.
@@ -117,9 +122,8 @@ fn end_minutes(book: Book, count: u32, index: u32) -> Book {
 }
 
 // Ends many minutes with one index, and prints what they changed.
-pub fn minutes(name: &[u8], book: Book, count: u32, index: u32) -> Book {
+pub fn minutes(book: Book, count: u32, index: u32) -> Book {
     let after = end_minutes(book, count, index);
-    text(name);
     named(b"minute ends of ", index as u64);
     named(b", ", count as u64);
     text(b" times");
