@@ -1,0 +1,33 @@
+use borrow.Author.Needs.{needs}
+use Prim.Native.Nat.{_-_}
+use Rattle.ledger_test.proofs.turn.end_minutes.Statement.{statement}
+use Rattle.ledger_test.proofs.turn.end_minutes.Tie as tie
+
+abbrev Inv-loop : tie.InvT-loop
+Inv-loop count index after₀ i₀ after i = Unit {0}
+
+abbrev μ-loop : tie.MeasureT-loop
+μ-loop count index after₀ i₀ after i = count - i
+
+loop-holds : tie.Need-loop-holds Inv-loop μ-loop
+loop-holds c = search needs
+
+minute-end-requires : tie.Need-minute-end-requires Inv-loop μ-loop
+minute-end-requires c κs = search needs
+
+add-i : tie.Need-add-i Inv-loop μ-loop
+add-i c = search needs
+
+loop-less : tie.Need-loop-less Inv-loop μ-loop
+loop-less c = search needs
+
+loop-again : tie.Need-loop-again Inv-loop μ-loop
+loop-again c = search needs
+
+returns : tie.Need-returns Inv-loop μ-loop
+returns c = search needs
+
+pub end-minutes-spec : {M : Type 1} → statement M
+end-minutes-spec =
+    tie.close
+    (tie.spec Inv-loop μ-loop loop-holds minute-end-requires add-i loop-less loop-again returns)
