@@ -27,51 +27,49 @@ pub fn answers(size: u8, file: &[u8]) -> Vec<Option<Answer>> {
     answers
 }
 
-#[inline]
+/// A record of a known tag and its length is one pattern, so that the place of the next one doesn't
+/// wait for the length to be read.
+#[inline(always)]
+#[rustfmt::skip]
 fn play(book: &mut Book, file: &[u8], mut answered: impl FnMut(Option<Answer>)) {
     let mut rest = file;
-    while let Some((&[tag, high, low], after)) = rest.split_first_chunk() {
-        let length = u16::from_be_bytes([high, low]);
-        let Some((body, next)) = after.split_at_checked(length.into()) else {
-            break;
+    while !rest.is_empty() {
+        let answer;
+        (answer, rest) = match *rest {
+            [3, 0, 4, a, b, c, d, ref next @ ..] => (book.minute_end(number([a, b, c, d])), next),
+            [1, 0, 11, buyer, seller, kind, a, b, c, d, e, f, g, h, ref next @ ..] => {
+                let (quantity, price) = (number([a, b, c, d]), number([e, f, g, h]));
+                (book.trade(Trade { buyer, seller, kind, quantity, price }), next)
+            }
+            [2, 0, 8, a, b, c, d, e, f, g, h, ref next @ ..] => {
+                let (bid, offer) = (number([a, b, c, d]), number([e, f, g, h]));
+                (book.quote(Market { bid, offer }), next)
+            }
+            [4, 0, 0, ref next @ ..] => (book.halt(), next),
+            [5, 0, 0, ref next @ ..] => (book.resume(), next),
+            [6, 0, 4, a, b, c, d, ref next @ ..] => (book.fix(number([a, b, c, d])), next),
+            [7, 0, 0, ref next @ ..] => (book.close(), next),
+            _ => match passed_over(rest) {
+                Some((1..=7, next)) => (Err(FILE), next),
+                Some((_, next)) => {
+                    answered(None);
+                    rest = next;
+                    continue;
+                }
+                None => (Err(FILE), &[][..]),
+            },
         };
-        answered(record(book, tag, body));
-        rest = next;
-    }
-    if !rest.is_empty() {
-        answered(Some(Err(FILE)));
+        answered(Some(answer));
     }
 }
 
-/// A record's answer, none if its tag is unknown.
-#[inline]
-fn record(book: &mut Book, tag: u8, body: &[u8]) -> Option<Answer> {
-    let answer = match (tag, body) {
-        (3, &[a, b, c, d]) => book.minute_end(u32::from_be_bytes([a, b, c, d])),
-        (1, body) => trade(body).map_or(Err(FILE), |trade| book.trade(trade)),
-        (2, &[a, b, c, d, e, f, g, h]) => book.quote(Market {
-            bid: u32::from_be_bytes([a, b, c, d]),
-            offer: u32::from_be_bytes([e, f, g, h]),
-        }),
-        (4, []) => book.halt(),
-        (5, []) => book.resume(),
-        (6, &[a, b, c, d]) => book.fix(u32::from_be_bytes([a, b, c, d])),
-        (7, []) => book.close(),
-        (2..=7, _) => Err(FILE),
-        _ => return None,
-    };
-    Some(answer)
+fn number(bytes: [u8; 4]) -> u32 {
+    u32::from_be_bytes(bytes)
 }
 
-fn trade(body: &[u8]) -> Option<Trade> {
-    let &[buyer, seller, kind, a, b, c, d, e, f, g, h] = body else {
-        return None;
-    };
-    Some(Trade {
-        buyer,
-        seller,
-        kind,
-        quantity: u32::from_be_bytes([a, b, c, d]),
-        price: u32::from_be_bytes([e, f, g, h]),
-    })
+/// The tag of the first record and what follows its body, none if it is cut off.
+fn passed_over(file: &[u8]) -> Option<(u8, &[u8])> {
+    let (&[tag, high, low], after) = file.split_first_chunk()?;
+    let length = u16::from_be_bytes([high, low]);
+    Some((tag, after.get(length.into()..)?))
 }
