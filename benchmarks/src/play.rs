@@ -27,49 +27,61 @@ pub fn answers(size: u8, file: &[u8]) -> Vec<Option<Answer>> {
     answers
 }
 
-/// A record of a known tag and its length is one pattern, so that the place of the next one doesn't
-/// wait for the length to be read.
 #[inline(always)]
-#[rustfmt::skip]
 fn play(book: &mut Book, file: &[u8], mut answered: impl FnMut(Option<Answer>)) {
     let mut rest = file;
     while !rest.is_empty() {
-        let answer;
-        (answer, rest) = match *rest {
-            [3, 0, 4, a, b, c, d, ref next @ ..] => (book.minute_end(number([a, b, c, d])), next),
-            [1, 0, 11, buyer, seller, kind, a, b, c, d, e, f, g, h, ref next @ ..] => {
-                let (quantity, price) = (number([a, b, c, d]), number([e, f, g, h]));
-                (book.trade(Trade { buyer, seller, kind, quantity, price }), next)
-            }
-            [2, 0, 8, a, b, c, d, e, f, g, h, ref next @ ..] => {
-                let (bid, offer) = (number([a, b, c, d]), number([e, f, g, h]));
-                (book.quote(Market { bid, offer }), next)
-            }
-            [4, 0, 0, ref next @ ..] => (book.halt(), next),
-            [5, 0, 0, ref next @ ..] => (book.resume(), next),
-            [6, 0, 4, a, b, c, d, ref next @ ..] => (book.fix(number([a, b, c, d])), next),
-            [7, 0, 0, ref next @ ..] => (book.close(), next),
-            _ => match passed_over(rest) {
-                Some((1..=7, next)) => (Err(FILE), next),
-                Some((_, next)) => {
-                    answered(None);
-                    rest = next;
-                    continue;
-                }
-                None => (Err(FILE), &[][..]),
-            },
+        let (answer, next) = match call(book, rest) {
+            Some((answer, next)) => (Some(answer), next),
+            None => passed_over(rest),
         };
-        answered(Some(answer));
+        answered(answer);
+        rest = next;
     }
+}
+
+/// Plays the first record and gives what follows it, none unless it has a known tag and its length.
+/// One pattern reads both, so that the place of the next record doesn't wait for the length.
+#[inline(always)]
+fn call<'a>(book: &mut Book, file: &'a [u8]) -> Option<(Answer, &'a [u8])> {
+    Some(match *file {
+        [3, 0, 4, a, b, c, d, ref next @ ..] => (book.minute_end(number([a, b, c, d])), next),
+        [1, 0, 11, buyer, seller, kind, a, b, c, d, e, f, g, h, ref next @ ..] => {
+            let trade = Trade {
+                buyer,
+                seller,
+                kind,
+                quantity: number([a, b, c, d]),
+                price: number([e, f, g, h]),
+            };
+            (book.trade(trade), next)
+        }
+        [2, 0, 8, a, b, c, d, e, f, g, h, ref next @ ..] => {
+            let (bid, offer) = (number([a, b, c, d]), number([e, f, g, h]));
+            (book.quote(Market { bid, offer }), next)
+        }
+        [4, 0, 0, ref next @ ..] => (book.halt(), next),
+        [5, 0, 0, ref next @ ..] => (book.resume(), next),
+        [6, 0, 4, a, b, c, d, ref next @ ..] => (book.fix(number([a, b, c, d])), next),
+        [7, 0, 0, ref next @ ..] => (book.close(), next),
+        _ => return None,
+    })
 }
 
 fn number(bytes: [u8; 4]) -> u32 {
     u32::from_be_bytes(bytes)
 }
 
-/// The tag of the first record and what follows its body, none if it is cut off.
-fn passed_over(file: &[u8]) -> Option<(u8, &[u8])> {
-    let (&[tag, high, low], after) = file.split_first_chunk()?;
-    let length = u16::from_be_bytes([high, low]);
-    Some((tag, after.get(length.into()..)?))
+/// The answer to a record that is no call, and what follows it.
+fn passed_over(file: &[u8]) -> (Option<Answer>, &[u8]) {
+    let cut_off = (Some(Err(FILE)), &[][..]);
+    let Some((&[tag, high, low], after)) = file.split_first_chunk() else {
+        return cut_off;
+    };
+    let length = usize::from(u16::from_be_bytes([high, low]));
+    match (tag, after.get(length..)) {
+        (_, None) => cut_off,
+        (1..=7, Some(next)) => (Some(Err(FILE)), next),
+        (_, Some(next)) => (None, next),
+    }
 }
