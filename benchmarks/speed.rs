@@ -1,0 +1,122 @@
+//! Times the proved library and the Rust ledger on the same files: see benchmarks/run.
+
+use benchmarks::inputs::{self, Input};
+use benchmarks::ACCOUNTS;
+use std::ffi::c_long;
+use std::hint::black_box;
+use std::time::{Duration, Instant};
+
+/// A round takes about this long, or one run of a long file: short, so that some go undisturbed.
+const ROUND: Duration = Duration::from_millis(2);
+/// How long the rounds of a file take together.
+const ROUNDS: Duration = Duration::from_secs(4);
+
+type Run = fn(u8, &[u8], &mut [i64], &mut [i64]) -> u64;
+
+extern "C" {
+    fn funding_run(
+        size: u8,
+        file: *const u8,
+        file_len: usize,
+        positions: *mut i64,
+        positions_len: usize,
+        cash: *mut i64,
+        cash_len: usize,
+    ) -> u64;
+
+    /// The C library's processor time in microseconds.
+    fn clock() -> c_long;
+}
+
+/// Time in which other programs ran doesn't count.
+fn processor_time() -> Duration {
+    // SAFETY: it takes nothing and only answers.
+    Duration::from_micros(unsafe { clock() } as u64)
+}
+
+fn library(size: u8, file: &[u8], positions: &mut [i64], cash: &mut [i64]) -> u64 {
+    // SAFETY: each pointer is that of a slice with the length beside it, and the slices differ.
+    unsafe {
+        funding_run(
+            size,
+            file.as_ptr(),
+            file.len(),
+            positions.as_mut_ptr(),
+            positions.len(),
+            cash.as_mut_ptr(),
+            cash.len(),
+        )
+    }
+}
+
+struct Outcome {
+    accepted: u64,
+    positions: [i64; ACCOUNTS],
+    cash: [i64; ACCOUNTS],
+}
+
+fn outcome(run: Run, input: &Input) -> Outcome {
+    let (mut positions, mut cash) = ([i64::MIN; ACCOUNTS], [i64::MIN; ACCOUNTS]);
+    let accepted = run(
+        black_box(input.size),
+        black_box(&input.file),
+        &mut positions,
+        &mut cash,
+    );
+    Outcome {
+        accepted,
+        positions,
+        cash,
+    }
+}
+
+/// Both give the same, and accept every record.
+fn verify(input: &Input) {
+    let (proved, plain) = (outcome(library, input), outcome(benchmarks::run, input));
+    assert_eq!(proved.accepted, input.records, "{}", input.name);
+    assert_eq!(plain.accepted, input.records, "{}", input.name);
+    assert!(
+        proved.positions == plain.positions,
+        "{}: positions",
+        input.name
+    );
+    assert!(proved.cash == plain.cash, "{}: cash", input.name);
+}
+
+fn time(run: Run, input: &Input, repeats: u32) -> Duration {
+    let start = processor_time();
+    for _ in 0..repeats {
+        black_box(outcome(run, input).accepted);
+    }
+    processor_time() - start
+}
+
+/// The best rounds of both in nanoseconds a record. They take turns.
+fn best(input: &Input) -> (f64, f64) {
+    let once = time(library, input, 1).max(Duration::from_micros(1));
+    let repeats = (ROUND.as_nanos() / once.as_nanos()).max(1) as u32;
+    let (mut proved, mut plain) = (Duration::MAX, Duration::MAX);
+    let start = Instant::now();
+    while start.elapsed() < ROUNDS {
+        proved = proved.min(time(library, input, repeats));
+        plain = plain.min(time(benchmarks::run, input, repeats));
+    }
+    let records = input.records as f64 * f64::from(repeats);
+    let per_record = |time: Duration| time.as_nanos() as f64 / records;
+    (per_record(proved), per_record(plain))
+}
+
+fn main() {
+    println!("| file | records | library, ns a record | Rust, ns a record | library / Rust |");
+    println!("|---|---|---|---|---|");
+    for input in inputs::all() {
+        verify(&input);
+        let (proved, plain) = best(&input);
+        println!(
+            "| {} | {} | {proved:.2} | {plain:.2} | {:.2} |",
+            input.name,
+            input.records,
+            proved / plain
+        );
+    }
+}
