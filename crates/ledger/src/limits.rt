@@ -40,13 +40,13 @@ pub fn is_within(x: i64, limit: u64) -> bool
 }
 
 impl Market {
-    pub fn is_two_sided(self) -> bool
+    pub(crate) fn is_two_sided(self) -> bool
         ensures { λ r. ⌜ r ≡ twoSided self ⌝ }
     {
         (self.bid != 0) & (self.offer != 0)
     }
 
-    pub fn is_uncrossed(self) -> bool
+    pub(crate) fn is_uncrossed(self) -> bool
         ensures { λ r. ⌜ r ≡ uncrossed self ⌝ }
     {
         !((self.bid != 0) & (self.offer != 0)) | (self.bid < self.offer)

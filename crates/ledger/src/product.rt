@@ -94,7 +94,7 @@ impl Product {
 }
 
 impl Market {
-    pub fn none() -> Self
+    pub(crate) fn none() -> Self
         ensures { λ r. ⌜ r ≡ noMarket ⌝ }
     {
         Self { bid: 0, offer: 0 }
@@ -102,7 +102,7 @@ impl Market {
 }
 
 impl Fixing {
-    pub fn none() -> Self
+    pub(crate) fn none() -> Self
         ensures { λ r. ⌜ r ≡ noFixing ⌝ }
     {
         Self {
@@ -115,7 +115,7 @@ impl Fixing {
 }
 
 impl Day {
-    pub fn empty() -> Self
+    pub(crate) fn empty() -> Self
         ensures { λ r. ⌜ r ≡ emptyDay ⌝ }
     {
         Self {

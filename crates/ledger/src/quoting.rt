@@ -94,7 +94,7 @@ impl Figures {
 
 impl Market {
     // This market where both its sides stand, else the other.
-    pub fn as_minute(self, otherwise: Market) -> Market
+    pub(crate) fn as_minute(self, otherwise: Market) -> Market
         ensures { λ r. ⌜ r ≡ asMinute self otherwise ⌝ }
     {
         if self.is_two_sided() { self } else { otherwise }

@@ -104,7 +104,7 @@ fn count(volume: &mut [u32; ACCOUNTS], t: Trade)
 }
 
 impl Day {
-    pub fn is_in_last_minute(self) -> bool
+    pub(crate) fn is_in_last_minute(self) -> bool
         ensures { λ r. ⌜ r ≡ inLastMinute (self .minutes) ⌝ }
     {
         self.minutes as u64 + 1 == DAY_LENGTH as u64
