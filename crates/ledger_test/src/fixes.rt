@@ -21,13 +21,10 @@ fn ended() -> Book {
     of_day(day_at(1_320))
 }
 
-// An account that bought and sold enough for these contracts of the final minute.
-fn trader(contracts: u32) -> Account {
+// An account that bought and sold enough for the contracts of any final minute below.
+fn trader() -> Account {
     let mut entries = no_account();
     entries.volume = 2_000_000;
-    if contracts == 0 {
-        entries.volume = 0;
-    }
     entries
 }
 
@@ -39,7 +36,7 @@ fn final_minute(contracts: u32, gross: u64, index: u32, previous: Previous) -> B
     let mut figures = empty_figures(10);
     figures.previous = previous;
     figures.day = day;
-    with_entries(of_figures(figures), 1, trader(contracts))
+    with_entries(of_figures(figures), 1, trader())
 }
 
 fn traded(contracts: u32, gross: u64, set: u32) {

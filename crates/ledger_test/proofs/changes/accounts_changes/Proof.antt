@@ -1,3 +1,4 @@
+-- `ledger_test::changes::accounts_changes` is safe and ends: the accounts left fall. Assumes nothing.
 use borrow.Author.Needs.{needs}
 use Prim.Native.Nat.{_-_}
 use Rattle.ledger_test.proofs.changes.accounts_changes.Statement.{statement}

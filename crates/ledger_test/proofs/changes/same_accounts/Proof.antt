@@ -1,3 +1,4 @@
+-- `ledger_test::changes::same_accounts` is safe and ends: the accounts left fall. Assumes nothing.
 use borrow.Author.Needs.{needs}
 use Prim.Native.Nat.{_-_}
 use Rattle.ledger_test.proofs.changes.same_accounts.Statement.{statement}

@@ -1,3 +1,4 @@
+-- `ledger_test::reports::print_entries` is safe and ends: the entries left fall. Assumes nothing.
 use borrow.Author.Needs.{needs}
 use Prim.Native.Nat.{_-_}
 use lib.ListN.{length}

@@ -1,3 +1,4 @@
+-- `ledger_test::turn::end_minutes` is safe and ends: the minutes left fall. Assumes nothing.
 use borrow.Author.Needs.{needs}
 use Prim.Native.Nat.{_-_}
 use Rattle.ledger_test.proofs.turn.end_minutes.Statement.{statement}
