@@ -1,7 +1,7 @@
 // funding-bench: reads a size and records from standard input and prints what they do. What is printed is decided in crate
 // host (shown); here it is written out.
 use dayfile::Read;
-use host::shown::play;
+use host::shown::play_record;
 use ledger::Book;
 use ledger::product::Product;
 use libc::STDIN_FILENO;
@@ -29,25 +29,24 @@ fn play_records(opened: Book, file: &[u8]) {
     let mut place: u64 = 1;
     loop {
         let following = place + 1;
-        match dayfile::read_record(file, at) {
+        let read = dayfile::read_record(file, at);
+        let played = play_record(book, read, place);
+        let after = played.book;
+        let shown = played.shown;
+        lines::print(shown, after);
+        match read {
             Read::End => {
                 return;
             }
             Read::CutOff => {
-                lines::refused(1, place);
                 return;
             }
-            Read::Known(call, next) => {
-                let played = play(book, call, place);
-                let after = played.book;
-                let shown = played.shown;
-                lines::print(shown, after);
+            Read::Known(_, next) => {
                 book = after;
                 at = next;
                 place = following;
             }
             Read::WrongLength(next) => {
-                lines::refused(1, place);
                 at = next;
                 place = following;
             }

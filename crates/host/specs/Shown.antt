@@ -9,6 +9,8 @@ use Rattle.ledger.specs.declared.Book.{Book}
 use Rattle.ledger.specs.declared.Answer.{Answer}
 use Rattle.ledger.specs.Columns.{accounts}
 use Rattle.ledger.specs.Step.{step}
+use Rattle.dayfile.specs.declared.Read.{Read}
+use Rattle.dayfile.specs.declared.Read.the-variants as read
 use Rattle.host.specs.declared.shown.Shown.{Shown}
 use Rattle.host.specs.declared.shown.Shown.the-variants as shown
 use Rattle.host.specs.declared.shown.Played.{Played}
@@ -29,6 +31,18 @@ shownOf a c place = cond (eqb (a .code) 0) (acceptedShown a c) (shown.Refused (a
 
 abbrev pub played : Book → Call → ℕ → Played
 played b c place = record { shown = shownOf (step accounts b c) c place; book = step accounts b c .book }
+
+-- a record that makes no call on the book
+abbrev pub onlyShown : Book → Shown → Played
+onlyShown b s = record { shown = s; book = b }
+
+-- 1: "A file record is cut off by the end of the file, …, or a known tag has a wrong length": refused. An unknown record prints nothing.
+abbrev pub playedRecord : Book → Read → ℕ → Played
+playedRecord b read.End place = onlyShown b shown.Nothing
+playedRecord b read.CutOff place = onlyShown b (shown.Refused 1 place)
+playedRecord b (read.Known c next) place = played b c place
+playedRecord b (read.WrongLength next) place = onlyShown b (shown.Refused 1 place)
+playedRecord b (read.Unknown next) place = onlyShown b shown.Nothing
 
 -- 01: "account, position and total cash, rising by account, where either is nonzero"
 abbrev pub isShown : ℤ → ℤ → Bool

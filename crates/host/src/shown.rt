@@ -1,7 +1,8 @@
 // What the bench prints, as a value for each record: the program is left with writing its digits.
 ghost use mathlib.Core.Path.{_≡_};
 ghost use Rattle.ledger.specs.Step.{step};
-ghost use Rattle.host.specs.Shown.{shownOf, played, isShown};
+ghost use Rattle.host.specs.Shown.{shownOf, played, playedRecord, isShown};
+use dayfile::Read;
 use ledger::Answer;
 use ledger::Book;
 use ledger::Call;
@@ -45,13 +46,38 @@ fn shown_by(answer: Answer, call: Call, place: u64) -> Shown
 }
 
 // A call at its place of the file.
-pub fn play(book: Book, call: Call, place: u64) -> Played
+fn play(book: Book, call: Call, place: u64) -> Played
     ensures { λ r. ⌜ r ≡ played book call place ⌝ }
 {
     let answer = book.step(call);
     let shown = shown_by(answer, call, place);
     let after = answer.book;
     Played { shown, book: after }
+}
+
+// What was read at a place of the file. A record that isn't a call leaves the book as it is.
+pub fn play_record(book: Book, read: Read, place: u64) -> Played
+    ensures { λ r. ⌜ r ≡ playedRecord book read place ⌝ }
+{
+    match read {
+        Read::End => Played {
+            shown: Shown::Nothing,
+            book,
+        },
+        Read::CutOff => Played {
+            shown: Shown::Refused { number: 1, place },
+            book,
+        },
+        Read::Known(call, _) => play(book, call, place),
+        Read::WrongLength(_) => Played {
+            shown: Shown::Refused { number: 1, place },
+            book,
+        },
+        Read::Unknown(_) => Played {
+            shown: Shown::Nothing,
+            book,
+        },
+    }
 }
 
 // Whether a close prints an account.

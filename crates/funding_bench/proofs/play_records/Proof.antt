@@ -24,6 +24,12 @@ add-following c = search needs
 read-record-requires : tie.Need-read-record-requires Inv-loop μ-loop
 read-record-requires c κs = search needs
 
+play-record-requires : tie.Need-play-record-requires Inv-loop μ-loop
+play-record-requires c κs = search needs
+
+print-requires : tie.Need-print-requires Inv-loop μ-loop
+print-requires c κs = search needs
+
 enum-told : tie.Need-enum-told Inv-loop μ-loop
 enum-told c = search needs
 
@@ -33,70 +39,58 @@ returns c = search needs
 enum-told-2 : tie.Need-enum-told-2 Inv-loop μ-loop
 enum-told-2 c = search needs
 
-refused-requires : tie.Need-refused-requires Inv-loop μ-loop
-refused-requires c κs = search needs
-
 returns-2 : tie.Need-returns-2 Inv-loop μ-loop
 returns-2 c = search needs
 
-enum-known-call : tie.Need-enum-known-call Inv-loop μ-loop
-enum-known-call c = search needs
-
-play-requires : tie.Need-play-requires Inv-loop μ-loop
-play-requires c κs = search needs
-
-print-requires : tie.Need-print-requires Inv-loop μ-loop
-print-requires c κs = search needs
+enum-known-read : tie.Need-enum-known-read Inv-loop μ-loop
+enum-known-read c = search needs
 
 loop-less : tie.Need-loop-less Inv-loop μ-loop
 loop-less c =
     let r = c .before .before .before .before .before .before in
     let s = r .before .before .before in
-    let k = c .before .before .before .before .call in
+    let k = c .before .read in
     omega (arith, forward-to (s .args .file .now) (r .before .loop .at) (read.Known (k .given .0 .0) (k .given .0 .1 .0)) (sym (r .read-record .ensures) ∙ k .given .1))
 
 loop-again : tie.Need-loop-again Inv-loop μ-loop
 loop-again c =
     let r = c .before .before .before .before .before .before in
     let s = r .before .before .before in
-    let k = c .before .before .before .before .call in
+    let k = c .before .read in
     omega (arith, forward-to (s .args .file .now) (r .before .loop .at) (read.Known (k .given .0 .0) (k .given .0 .1 .0)) (sym (r .read-record .ensures) ∙ k .given .1))
 
-enum-known-next : tie.Need-enum-known-next Inv-loop μ-loop
-enum-known-next c = search needs
-
-refused-requires-2 : tie.Need-refused-requires-2 Inv-loop μ-loop
-refused-requires-2 c κs = search needs
+enum-known-read-2 : tie.Need-enum-known-read-2 Inv-loop μ-loop
+enum-known-read-2 c = search needs
 
 loop-less-2 : tie.Need-loop-less-2 Inv-loop μ-loop
 loop-less-2 c =
-    let r = c .before .before .before .before in
+    let r = c .before .before .before .before .before .before in
     let s = r .before .before .before in
-    let k = c .before .before .next in
+    let k = c .before .read2 in
     omega (arith, forward-to (s .args .file .now) (r .before .loop .at) (read.WrongLength (k .given .0 .0)) (sym (r .read-record .ensures) ∙ k .given .1))
 
 loop-again-2 : tie.Need-loop-again-2 Inv-loop μ-loop
 loop-again-2 c =
-    let r = c .before .before .before .before in
+    let r = c .before .before .before .before .before .before in
     let s = r .before .before .before in
-    let k = c .before .before .next in
+    let k = c .before .read2 in
     omega (arith, forward-to (s .args .file .now) (r .before .loop .at) (read.WrongLength (k .given .0 .0)) (sym (r .read-record .ensures) ∙ k .given .1))
 
-enum-known-next-2 : tie.Need-enum-known-next-2 Inv-loop μ-loop
-enum-known-next-2 c = search needs
+enum-known-read-3 : tie.Need-enum-known-read-3 Inv-loop μ-loop
+enum-known-read-3 c = search needs
 
 loop-less-3 : tie.Need-loop-less-3 Inv-loop μ-loop
 loop-less-3 c =
-    let r = c .before .before .before in
+    let r = c .before .before .before .before .before .before in
     let s = r .before .before .before in
-    let k = c .before .next2 in
+    let k = c .before .read3 in
     omega (arith, forward-to (s .args .file .now) (r .before .loop .at) (read.Unknown (k .given .0 .0)) (sym (r .read-record .ensures) ∙ k .given .1))
 
 loop-again-3 : tie.Need-loop-again-3 Inv-loop μ-loop
 loop-again-3 c =
-    let r = c .before .before .before in
+    let r = c .before .before .before .before .before .before in
     let s = r .before .before .before in
-    let k = c .before .next2 in
+    let k = c .before .read3 in
     omega (arith, forward-to (s .args .file .now) (r .before .loop .at) (read.Unknown (k .given .0 .0)) (sym (r .read-record .ensures) ∙ k .given .1))
 
 pub play-records-spec : {M : Type 1} → statement M
@@ -108,20 +102,18 @@ play-records-spec =
     loop-holds
     add-following
     read-record-requires
+    play-record-requires
+    print-requires
     enum-told
     returns
     enum-told-2
-    refused-requires
     returns-2
-    enum-known-call
-    play-requires
-    print-requires
+    enum-known-read
     loop-less
     loop-again
-    enum-known-next
-    refused-requires-2
+    enum-known-read-2
     loop-less-2
     loop-again-2
-    enum-known-next-2
+    enum-known-read-3
     loop-less-3
     loop-again-3)

@@ -1,0 +1,53 @@
+-- `host::shown::play_record` meets its contract, for each thing that may be read. Assumes nothing.
+use borrow.Author.Needs.{needs}
+use Rattle.host.proofs.shown.play_record.Statement.{statement}
+use Rattle.host.proofs.shown.play_record.Tie as tie
+
+enum-told : tie.Need-enum-told
+enum-told c = search needs
+
+enum-told-2 : tie.Need-enum-told-2
+enum-told-2 c = search needs
+
+enum-known-read : tie.Need-enum-known-read
+enum-known-read c = search needs
+
+play-requires : tie.Need-play-requires
+play-requires c κs = search needs
+
+enum-told-3 : tie.Need-enum-told-3
+enum-told-3 c = search needs
+
+enum-told-4 : tie.Need-enum-told-4
+enum-told-4 c = search needs
+
+returns : tie.Need-returns
+returns c = rw (c .enum-told .given .1)
+
+returns-2 : tie.Need-returns-2
+returns-2 c = rw (c .enum-told2 .given .1)
+
+returns-3 : tie.Need-returns-3
+returns-3 c = rw (c .play .ensures, c .before .before .read .given .1)
+
+returns-4 : tie.Need-returns-4
+returns-4 c = rw (c .enum-told3 .given .1)
+
+returns-5 : tie.Need-returns-5
+returns-5 c = rw (c .enum-told4 .given .1)
+
+pub play-record-spec : {M : Type 1} → statement M
+play-record-spec =
+    tie.close
+    (tie.spec
+    enum-told
+    enum-told-2
+    enum-known-read
+    play-requires
+    enum-told-3
+    enum-told-4
+    returns
+    returns-2
+    returns-3
+    returns-4
+    returns-5)
