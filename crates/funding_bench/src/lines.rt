@@ -21,7 +21,7 @@ fn signed(x: i64) {
     number(integers::magnitude(x));
 }
 
-pub fn refused(code: u8, place: u64) {
+fn refused(code: u8, place: u64) {
     text(b"refused ");
     number(code as u64);
     text(b" record ");

@@ -2,6 +2,7 @@
 // host (shown); here it is written out.
 use dayfile::Read;
 use host::shown::play_record;
+use host::shown::shown_opening;
 use ledger::Book;
 use ledger::product::Product;
 use libc::STDIN_FILENO;
@@ -60,12 +61,12 @@ fn play_records(opened: Book, file: &[u8]) {
 
 fn bench(input: &[u8]) {
     let opened = Product::opening(size_of(input));
-    let code = opened.code;
-    if code != 0 {
-        lines::refused(code, 0);
+    let shown = shown_opening(opened);
+    let book = opened.book;
+    lines::print(shown, book);
+    if opened.code != 0 {
         return;
     }
-    let book = opened.book;
     play_records(book, records_of(input));
 }
 

@@ -15,6 +15,10 @@ use Rattle.host.specs.declared.shown.Shown.{Shown}
 use Rattle.host.specs.declared.shown.Shown.the-variants as shown
 use Rattle.host.specs.declared.shown.Played.{Played}
 
+-- 01: "A refused size prints `refused 5 record 0`"
+abbrev pub openingShown : Answer → Shown
+openingShown a = cond (eqb (a .code) 0) shown.Nothing (shown.Refused (a .code) 0)
+
 -- 01: "A fix prints the day counted from 1, P, clamped rate, amount and k. A close prints" the accounts. Other accepted calls print nothing.
 abbrev pub acceptedShown : Answer → Call → Shown
 acceptedShown a (call.Quote m) = shown.Nothing

@@ -1,7 +1,7 @@
 // What the bench prints, as a value for each record: the program is left with writing its digits.
 ghost use mathlib.Core.Path.{_≡_};
 ghost use Rattle.ledger.specs.Step.{step};
-ghost use Rattle.host.specs.Shown.{shownOf, played, playedRecord, isShown};
+ghost use Rattle.host.specs.Shown.{openingShown, shownOf, played, playedRecord, isShown};
 use dayfile::Read;
 use ledger::Answer;
 use ledger::Book;
@@ -23,6 +23,17 @@ pub enum Shown {
 pub struct Played {
     pub shown: Shown,
     pub book: Book,
+}
+
+// What the opening prints.
+pub fn shown_opening(opened: Answer) -> Shown
+    ensures { λ r. ⌜ r ≡ openingShown opened ⌝ }
+{
+    let number = opened.code;
+    if number != 0 {
+        return Shown::Refused { number, place: 0 };
+    }
+    Shown::Nothing
 }
 
 fn shown_by(answer: Answer, call: Call, place: u64) -> Shown
