@@ -23,7 +23,7 @@ same-followed : (file : List ℕ) (at : ℕ) (r : Read) (f g : ℕ → List Read
     → ((next : ℕ) → at + 3 ≤ next → f next ≡ g next) → followed r f ≡ followed r g
 same-followed file at read.End f g o e = refl
 same-followed file at read.CutOff f g o e = refl
-same-followed file at (read.Known c next) f g o e = ap (λ rest. read.Known c next ∷ rest) (e next (o .0))
+same-followed file at (read.Known next c) f g o e = ap (λ rest. read.Known next c ∷ rest) (e next (o .0))
 same-followed file at (read.WrongLength next) f g o e = ap (λ rest. read.WrongLength next ∷ rest) (e next (o .0))
 same-followed file at (read.Unknown next) f g o e = ap (λ rest. read.Unknown next ∷ rest) (e next (o .0))
 
@@ -52,9 +52,9 @@ module _ (file : List ℕ) (at : ℕ) where
   unfolding callsIn
   calls-at-cut-off e = ap callsIn (records-at read.CutOff e)
 
-  pub calls-at-known : (c : Call) (next : ℕ) → readAt file at ≡ read.Known c next → callsFrom file at ≡ c ∷ callsFrom file next
+  pub calls-at-known : (c : Call) (next : ℕ) → readAt file at ≡ read.Known next c → callsFrom file at ≡ c ∷ callsFrom file next
   unfolding callsIn
-  calls-at-known c next e = ap callsIn (records-at (read.Known c next) e)
+  calls-at-known c next e = ap callsIn (records-at (read.Known next c) e)
 
   pub calls-at-wrong-length : (next : ℕ) → readAt file at ≡ read.WrongLength next → callsFrom file at ≡ callsFrom file next
   unfolding callsIn

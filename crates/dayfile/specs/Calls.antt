@@ -12,7 +12,7 @@ use Rattle.dayfile.specs.Record.{readAt}
 abbrev pub followed : Read → (ℕ → List Read) → List Read
 followed read.End rest = []
 followed read.CutOff rest = read.CutOff ∷ []
-followed (read.Known c next) rest = read.Known c next ∷ rest next
+followed (read.Known next c) rest = read.Known next c ∷ rest next
 followed (read.WrongLength next) rest = read.WrongLength next ∷ rest next
 followed (read.Unknown next) rest = read.Unknown next ∷ rest next
 
@@ -32,7 +32,7 @@ recordsOf file = recordsFrom file 0
 abbrev pub called : Read → List Call → List Call
 called read.End calls = calls
 called read.CutOff calls = calls
-called (read.Known c next) calls = c ∷ calls
+called (read.Known next c) calls = c ∷ calls
 called (read.WrongLength next) calls = calls
 called (read.Unknown next) calls = calls
 

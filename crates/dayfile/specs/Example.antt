@@ -30,9 +30,9 @@ unfinished = 7 ∷ 0 ∷ []
 abbrev pub Example : Type 0
 Example =
     recordsOf (quoted ++ (foreign ++ (overlong ++ (traded ++ unfinished)))) ≡
-    read.Known (call.Quote (record { bid = 200100; offer = 200300 })) 11
+    read.Known 11 (call.Quote (record { bid = 200100; offer = 200300 }))
     ∷ read.Unknown 15
     ∷ read.WrongLength 19
-    ∷ read.Known (call.Trade (record { buyer = 3; seller = 7; kind = 0; quantity = 12; price = 200200 })) 33
+    ∷ read.Known 33 (call.Trade (record { buyer = 3; seller = 7; kind = 0; quantity = 12; price = 200200 }))
     ∷ read.CutOff
     ∷ []

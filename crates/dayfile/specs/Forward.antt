@@ -14,7 +14,7 @@ Within file at next = (at + 3 ≤ next) × (next ≤ length file)
 abbrev pub Onward : List ℕ → ℕ → Read → Type 0
 Onward file at read.End = Unit {0}
 Onward file at read.CutOff = Unit {0}
-Onward file at (read.Known c next) = Within file at next
+Onward file at (read.Known next c) = Within file at next
 Onward file at (read.WrongLength next) = Within file at next
 Onward file at (read.Unknown next) = Within file at next
 

@@ -87,7 +87,7 @@ abbrev pub complete : List ℕ → ℕ → Tagged → Read
 complete file at tagged.Unknown = read.Unknown (nextAt file at)
 complete file at (tagged.Known t) =
     cond (eqb (statedLength file at) (bodyLength t))
-    (read.Known (callOf file t (bodyAt at)) (nextAt file at))
+    (read.Known (nextAt file at) (callOf file t (bodyAt at)))
     (read.WrongLength (nextAt file at))
 
 -- "A file record is cut off by the end of the file", whatever its tag and length: it ends past the file's end. One or two bytes

@@ -10,6 +10,8 @@ use ledger::Trade;
 
 // The bytes of a tag and a length.
 const HEAD: usize = 3;
+// The bytes of a minute end.
+const MINUTE_END: usize = 7;
 
 // The known tags.
 pub enum Tag {
@@ -31,7 +33,7 @@ pub enum Tagged {
 pub enum Read {
     End,
     CutOff,
-    Known(Call, usize),
+    Known(usize, Call),
     WrongLength(usize),
     Unknown(usize),
 }
@@ -131,7 +133,7 @@ fn complete_record(file: &[u8], at: usize, stated: usize) -> Read
         Tagged::Unknown => Read::Unknown(next),
         Tagged::Known(tag) => {
             if stated == body_length(tag) {
-                Read::Known(call_of(file, tag, body), next)
+                Read::Known(next, call_of(file, tag, body))
             } else {
                 Read::WrongLength(next)
             }
@@ -146,11 +148,20 @@ pub fn read_record(file: &[u8], at: usize) -> Read
     if file.len() <= at {
         return Read::End;
     }
-    if file.len() - at < HEAD {
+    let rest = file.len() - at;
+    if MINUTE_END <= rest {
+        if (file[at] == 3) & (two_bytes(file, at + 1) == 4) {
+            return Read::Known(
+                at + MINUTE_END,
+                Call::MinuteEnd(four_bytes(file, at + HEAD)),
+            );
+        }
+    }
+    if rest < HEAD {
         return Read::CutOff;
     }
     let stated = two_bytes(file, at + 1);
-    if stated <= file.len() - at - HEAD {
+    if stated <= rest - HEAD {
         complete_record(file, at, stated)
     } else {
         Read::CutOff

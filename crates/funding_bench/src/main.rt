@@ -42,7 +42,7 @@ fn play_records(opened: Book, file: &[u8]) {
             Read::CutOff => {
                 return;
             }
-            Read::Known(_, next) => {
+            Read::Known(next, _) => {
                 book = after;
                 at = next;
                 place = following;

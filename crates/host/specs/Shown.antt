@@ -44,7 +44,7 @@ onlyShown b s = record { shown = s; book = b }
 abbrev pub playedRecord : Book → Read → ℕ → Played
 playedRecord b read.End place = onlyShown b shown.Nothing
 playedRecord b read.CutOff place = onlyShown b (shown.Refused 1 place)
-playedRecord b (read.Known c next) place = played b c place
+playedRecord b (read.Known next c) place = played b c place
 playedRecord b (read.WrongLength next) place = onlyShown b (shown.Refused 1 place)
 playedRecord b (read.Unknown next) place = onlyShown b shown.Nothing
 

@@ -77,7 +77,7 @@ fn run(book: Book, file: &[u8]) -> Ran
             Read::CutOff => {
                 return ended(accepted, figures, opening, position, cost, volume, cash);
             }
-            Read::Known(call, next) => {
+            Read::Known(next, call) => {
                 let outcome = step_on(
                     figures,
                     &mut opening,

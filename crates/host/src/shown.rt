@@ -79,7 +79,7 @@ pub fn play_record(book: Book, read: Read, place: u64) -> Played
             shown: Shown::Refused { number: 1, place },
             book,
         },
-        Read::Known(call, _) => play(book, call, place),
+        Read::Known(_, call) => play(book, call, place),
         Read::WrongLength(_) => Played {
             shown: Shown::Refused { number: 1, place },
             book,

@@ -1,16 +1,16 @@
 -- Rounding to the nearest whole number, from the machine's quotient and remainder.
 --     characterised     `rounded` is nearest, a tie going where its rule says, and nothing else is
 --     nearest-le, nearest-ge, rounded-le     a whole number that bounds x / d bounds what it is rounded to
---     below, above, even, away     the quotient, or its neighbour, is `rounded` by how the remainder stands to half the divisor
+--     stays, goes-on     the quotient, or its neighbour, is `rounded` by how the remainder stands to what it leaves of the divisor
 -- Assumes nothing.
 use mathlib.Core.Path.{_≡_, refl, sym, _∙_, ap}
-use mathlib.Core.Bool.{Bool, true, false, not, cond}
+use mathlib.Core.Bool.{Bool, true, false, not, cond, _&&_, _||_}
 use mathlib.Core.Logic.{_⊎_, inl, inr, ⊎-elim}
 use Prim.Native.Nat.{ℕ, zero, suc, _+_, _*_, _/_, _%_, _<_, _≤_}
 use native.Mathlib.Nat.{div-add-mod, mod-lt, lt-of-mul-lt-mul-right}
 use native.Mathlib.Omega.{arith}
-use lib.Dec.{T, ltb, ltb→lt, nltb→le}
-use borrow.Author.Tests.{lt-ltb, le-ltb}
+use lib.Dec.{T, ltb, eqb, ltb→lt, nltb→le}
+use borrow.Author.Tests.{lt-ltb, le-ltb, ltb-true, ltb-false, eqb-true, eqb-false}
 use lib.IntN.{ℤ, pos, negsuc, negℤ, natAbs, _+ℤ_, _-ℤ_, _*ℤ_, negℤ-+ℤ}
 use lib.Signed.{quotZ, remZ, _<ℤ_}
 use Rattle.integers.specs.declared.Tie.{Tie}
@@ -18,7 +18,7 @@ use Rattle.integers.specs.declared.Tie.the-variants.{Even, Away}
 use Rattle.integers.specs.Rounding.{withSignOf, onTie, nearest, rounded, distance, Chosen, Nearest, Characterised}
 use Rattle.integers.proofs.Laws.{up, dn, add-is, mul-is, neg-up, neg-dn}
 use Rattle.integers.proofs.Order.{size, apart, ints, abs-mul, abs-sub, lt-to}
-use Rattle.integers.proofs.Machine.{abs-rem}
+use Rattle.integers.proofs.Machine.{abs-quot, abs-rem}
 use Rattle.integers.proofs.Ring.{ring, _⊖_, _⊗_}
 
 -- ---- over ℕ
@@ -223,23 +223,30 @@ one-more : (x : ℤ) (k : ℕ) → withSignOf x k +ℤ withSignOf x 1 ≡ withSi
 one-more (pos a) k = refl
 one-more (negsuc a) k = sym (negℤ-+ℤ (pos k) (pos 1))
 
-to-even : (x : ℤ) (k : ℕ) → withSignOf x k +ℤ remZ (withSignOf x k) (pos 2) ≡ withSignOf x (k + k % 2)
-to-even (pos a) k = refl
-to-even (negsuc a) zero = refl
-to-even (negsuc a) (suc k) = sym (negℤ-+ℤ (pos (suc k)) (pos (suc k % 2)))
+-- a tie that its rule sends on or not, as g says; l is what the remainder leaves of the divisor
+nearest-by : (tie : Tie) (a d l : ℕ) (g : Bool) → l + a % d ≡ d → onTie tie (a / d) ≡ a / d + cond g 1 0
+    → nearest tie a d ≡ a / d + cond (ltb l (a % d) || (eqb l (a % d) && g)) 1 0
+nearest-by tie a d l g e t = go (ltb l (a % d)) (eqb l (a % d)) refl refl
+  where
+    go : (s u : Bool) → ltb l (a % d) ≡ s → eqb l (a % d) ≡ u → nearest tie a d ≡ a / d + cond (s || (u && g)) 1 0
+    go true u p q = nearest-above tie a d (omega (arith, ltb-true l (a % d) p))
+    go false true p q = nearest-tied tie a d (omega (arith, eqb-true l (a % d) q)) ∙ t
+    go false false p q = nearest-below tie a d (omega (arith, ltb-false l (a % d) p, eqb-false l (a % d) q)) ∙ omega arith
 
-module _ (x d : ℤ) (dp : pos 0 <ℤ d) where
-  pub below : (tie : Tie) → 2 * natAbs (remZ x d) < natAbs d → quotZ x d ≡ rounded tie x (natAbs d)
-  below tie h = quot-signed x d dp ∙ ap (withSignOf x) (sym (nearest-below tie (natAbs x) (natAbs d) (omega (arith, abs-rem x d))))
+module _ (x d : ℤ) (dp : pos 0 <ℤ d) (tie : Tie) (l : ℕ) (g : Bool) (e : l + natAbs (remZ x d) ≡ natAbs d)
+    (t : onTie tie (natAbs (quotZ x d)) ≡ natAbs (quotZ x d) + cond g 1 0) where
+  abbrev goes : Bool
+  goes = ltb l (natAbs (remZ x d)) || (eqb l (natAbs (remZ x d)) && g)
 
-  pub above : (tie : Tie) → natAbs d < 2 * natAbs (remZ x d) → quotZ x d +ℤ withSignOf x 1 ≡ rounded tie x (natAbs d)
-  above tie h = rw (quot-signed x d dp) (one-more x (natAbs x / natAbs d) ∙ ap (withSignOf x) (sym (nearest-above tie (natAbs x) (natAbs d) (omega (arith, abs-rem x d)))))
+  by-size : (n : ℕ) → cond goes 1 0 ≡ n → rounded tie x (natAbs d) ≡ withSignOf x (natAbs x / natAbs d + n)
+  by-size n h =
+      let q = natAbs x / natAbs d in
+      let tied = rw (abs-quot x d) at t in
+      let e' : l + natAbs x % natAbs d ≡ natAbs d = omega (arith, abs-rem x d) in
+      ap (withSignOf x) (nearest-by tie (natAbs x) (natAbs d) l g e' tied ∙ ap (λ r. q + cond (ltb l r || (eqb l r && g)) 1 0) (sym (abs-rem x d)) ∙ ap (λ k. q + k) h)
 
-  tied : (tie : Tie) → 2 * natAbs (remZ x d) ≡ natAbs d → withSignOf x (onTie tie (natAbs x / natAbs d)) ≡ rounded tie x (natAbs d)
-  tied tie h = ap (withSignOf x) (sym (nearest-tied tie (natAbs x) (natAbs d) (omega (arith, abs-rem x d))))
+  pub stays : goes ≡ false → quotZ x d ≡ rounded tie x (natAbs d)
+  stays h = quot-signed x d dp ∙ ap (withSignOf x) (omega arith) ∙ sym (by-size 0 (ap (λ b. cond b 1 0) h))
 
-  pub even : 2 * natAbs (remZ x d) ≡ natAbs d → quotZ x d +ℤ remZ (quotZ x d) (pos 2) ≡ rounded Even x (natAbs d)
-  even h = rw (quot-signed x d dp) (to-even x (natAbs x / natAbs d) ∙ tied Even h)
-
-  pub away : 2 * natAbs (remZ x d) ≡ natAbs d → quotZ x d +ℤ withSignOf x 1 ≡ rounded Away x (natAbs d)
-  away h = rw (quot-signed x d dp) (one-more x (natAbs x / natAbs d) ∙ tied Away h)
+  pub goes-on : goes ≡ true → quotZ x d +ℤ withSignOf x 1 ≡ rounded tie x (natAbs d)
+  goes-on h = rw (quot-signed x d dp) (one-more x (natAbs x / natAbs d)) ∙ sym (by-size 1 (ap (λ b. cond b 1 0) h))

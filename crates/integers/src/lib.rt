@@ -1,9 +1,10 @@
 // Division rounded to the nearest whole number. proofs/ is a library of laws of the integers that the other crates cite.
 ghost use mathlib.Core.Path.{_≡_};
+ghost use mathlib.Core.Bool.{cond};
 ghost use Prim.Native.Nat.{_+_, _<_, _^_};
 ghost use lib.IntN.{pos, natAbs, _+ℤ_};
 ghost use lib.Signed.{_<ℤ_};
-ghost use Rattle.integers.specs.Rounding.{withSignOf, rounded, halfEven};
+ghost use Rattle.integers.specs.Rounding.{withSignOf, onTie, rounded, halfEven};
 
 // Where a quotient half way between two whole numbers goes.
 pub enum Tie {
@@ -28,8 +29,19 @@ fn farther(q: i64, x: i64) -> i64
     if x < 0 { q - 1 } else { q + 1 }
 }
 
+// Whether a tie goes on from the quotient q to the whole number after it.
+fn tie_goes_on(q: i64, tie: Tie) -> bool
+    ensures { λ r. ⌜ onTie tie (natAbs q) ≡ natAbs q + cond r 1 0 ⌝ }
+{
+    match tie {
+        Tie::Even => magnitude(q) % 2 != 0,
+        Tie::Away => true,
+    }
+}
+
 // x / d rounded to the nearest whole number, by one quotient and one remainder for either sign of x: the remainder's size
-// is held to what it leaves of the divisor. A quotient by 0 has no value, so each caller shows that its divisor is positive.
+// is held to what it leaves of the divisor. Which side is nearer can't be foretold, so one test decides it, which the machine
+// answers without a jump. A quotient by 0 has no value, so each caller shows that its divisor is positive.
 pub fn rounded(x: i64, d: i64, tie: Tie) -> i64
     requires { ⌜ pos 0 <ℤ d ⌝ }
     ensures { λ r. ⌜ r ≡ rounded tie x (natAbs d) ⌝ }
@@ -38,16 +50,8 @@ pub fn rounded(x: i64, d: i64, tie: Tie) -> i64
     let r = x % d;
     let size = magnitude(r);
     let left = d as u64 - size;
-    if size < left {
-        return q;
-    }
-    if left < size {
-        return farther(q, x);
-    }
-    match tie {
-        Tie::Even => q + q % 2,
-        Tie::Away => farther(q, x),
-    }
+    let goes_on = (left < size) | ((left == size) & tie_goes_on(q, tie));
+    if goes_on { farther(q, x) } else { q }
 }
 
 // x / d rounded to the nearest whole number, a tie to the even one. The divisor is positive, as above.

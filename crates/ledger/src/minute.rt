@@ -16,7 +16,6 @@ use crate::Market;
 use crate::Outcome;
 use crate::limits::none_or_price;
 use crate::product::Product;
-use crate::quoting::or_else;
 
 impl Day {
     // The weighted sum after a minute, valid or not.
@@ -70,10 +69,25 @@ impl Figures {
         ensures { λ r. ⌜ r ≡ isValid (termsOn (self .closed)) (self .halted) (self .day .minute) index ⌝ }
     {
         let minute = self.day.minute;
-        !self.halted
-            & minute.is_two_sided()
-            & (index != 0)
-            & funding::within_spread(minute.bid, minute.offer, Product::terms())
+        let sampled = !self.halted & minute.is_two_sided() & (index != 0);
+        if sampled {
+            funding::within_spread(minute.bid, minute.offer, Product::terms())
+        } else {
+            false
+        }
+    }
+
+    // The number of a minute end's refusal, 0 for none.
+    fn minute_end_code(self, index: u32) -> u8
+        ensures { λ r. ⌜ r ≡ figuresRefusal accounts self (Call.MinuteEnd index) ⌝ }
+    {
+        if self.is_full() | ((DAY_LENGTH <= self.day.minutes) | (self.day.price != 0)) {
+            return 3;
+        }
+        if !none_or_price(index) {
+            return 5;
+        }
+        0
     }
 
     // Figures within their limits are asked, so that the weighted sum fits.
@@ -81,14 +95,12 @@ impl Figures {
         requires { ⌜ figuresHold self ≡ true ⌝ }
         ensures { λ r. ⌜ r ≡ outcome self (figuresRefusal accounts self (Call.MinuteEnd index)) (Call.MinuteEnd index) ⌝ }
     {
-        let day = self.day;
-        let over = self.is_full() | ((DAY_LENGTH <= day.minutes) | (day.price != 0));
-        let code = or_else(over, 3, or_else(!none_or_price(index), 5, 0));
+        let code = self.minute_end_code(index);
         if code != 0 {
             return self.refused(code);
         }
         let mut after = self;
-        after.day = day.minute_ended(self.is_valid(index), index);
+        after.day = self.day.minute_ended(self.is_valid(index), index);
         after.accepted()
     }
 }

@@ -18,8 +18,6 @@ use crate::MOST_QUANTITY;
 use crate::MOST_VOLUME;
 use crate::Outcome;
 use crate::Trade;
-use crate::limits::is_within;
-use crate::quoting::or_else;
 use funding::FinalMinute;
 
 impl Trade {
@@ -67,7 +65,8 @@ fn volume_stays(volume: &[u32; ACCOUNTS], t: Trade) -> bool
     (bought <= MOST_VOLUME as u64) & (sold <= MOST_VOLUME as u64)
 }
 
-// Whether the positions of both accounts stay within their limit. Positions within it are asked, so that the sums fit.
+// Whether the positions of both accounts stay within their limit. Positions within it are asked, so that the sums fit, and so
+// that a buyer's can pass it only above and a seller's only below.
 fn position_stays(position: &[i64; ACCOUNTS], t: Trade) -> bool
     requires { ⌜ Exchangeable (now position) t 1200000 ⌝ }
     ensures { λ r. ⌜ r ≡ positionStays (now (position .entry)) t ⌝ }
@@ -77,7 +76,8 @@ fn position_stays(position: &[i64; ACCOUNTS], t: Trade) -> bool
     let moved = t.moves() as i64;
     let bought = position[i] + moved;
     let sold = position[j] - moved;
-    is_within(bought, MOST_POSITION) & is_within(sold, MOST_POSITION)
+    let most = MOST_POSITION as i64;
+    (bought <= most) & (0 - most <= sold)
 }
 
 // Moves an amount from the seller's entry to the buyer's. The seller's is read after the buyer's is written.
@@ -138,11 +138,22 @@ fn trade_code(
     requires { ⌜ Exchangeable (now position) t 1200000 × Countable (now volume) t ⌝ }
     ensures { λ r. ⌜ r ≡ tradeRefusal accounts figures (now (position .entry)) (now (volume .entry)) t ⌝ }
 {
-    let volume_passes = !volume_stays(volume, t);
-    let position_passes = !position_stays(position, t);
-    let own = or_else(volume_passes, 7, or_else(position_passes, 8, 0));
-    let fields = or_else(t.is_outside(), 5, own);
-    or_else(figures.is_full(), 3, or_else(figures.halted, 4, fields))
+    if figures.is_full() {
+        return 3;
+    }
+    if figures.halted {
+        return 4;
+    }
+    if t.is_outside() {
+        return 5;
+    }
+    if !volume_stays(volume, t) {
+        return 7;
+    }
+    if !position_stays(position, t) {
+        return 8;
+    }
+    0
 }
 
 // A trade on a book whose other columns are any.

@@ -1,22 +1,22 @@
 -- `integers::rounded` meets its contract. Neither the quotient nor the remainder wraps; each return is one law of
--- proofs/Rounding.antt, by how the remainder's size stands to what it leaves of the divisor. Assumes nothing.
-use mathlib.Core.Path.{_≡_, sym, _∙_, ap, ap₂}
-use mathlib.Core.List.{_∷_, []}
-use Prim.Native.Nat.{_+_, _*_, _<_, _≤_, _^_}
+-- proofs/Rounding.antt. Assumes nothing.
+use mathlib.Core.Path.{_≡_, refl, sym, _∙_, ap, ap₂}
+use mathlib.Core.Bool.{Bool, true, false, cond, _&&_, _||_, true≢false}
+use Prim.Native.Nat.{ℕ, _+_, _-_, _*_, _<_, _≤_, _^_}
 use native.Mathlib.Nat.{mul-le-mul-right}
 use native.Mathlib.Omega.{arith}
-use lib.Dec.{lit<}
-use lib.IntN.{ℤ, pos, natAbs, _+ℤ_}
+use lib.Dec.{ltb, eqb}
+use lib.IntN.{ℤ, natAbs, _+ℤ_}
 use lib.Signed.{remZ, quotZ}
 use mir.Syntax.{w64}
 use mir.Val.{SFits, toZ, ofZ}
 use mir.Facts.{toZ-ofZ}
+use borrow.Author.Tests.{ltb-true, eqb-true}
 use borrow.Author.Needs.{needs}
-use Rattle.integers.specs.Rounding.{withSignOf, rounded}
+use Rattle.integers.specs.Rounding.{withSignOf, onTie}
 use Rattle.integers.proofs.Order.{size, fits-abs, lt-to, <ℤ-weaken}
 use Rattle.integers.proofs.Machine.{bits-pos, quot-fits, rem-fits, rem-lt, quot-rem-size, as-unsigned}
-use Rattle.integers.proofs.Overflow.{Op, arg, lit, add, quo, rem, val, Within, _▹_, done, fits, safe, runs}
-use Rattle.integers.proofs.Rounding.{below, above, even, away}
+use Rattle.integers.proofs.Rounding.{stays, goes-on}
 use Rattle.integers.proofs.rounded.Statement.{statement}
 use Rattle.integers.proofs.rounded.Tie as tie
 
@@ -79,66 +79,78 @@ cast-left c = rw (d-back (c .before)) (as-unsigned (<ℤ-weaken (c .before .pre)
 sub-left : tie.Need-sub-left
 sub-left c = rw (d-back (c .before)) (omega (arith, size-below c))
 
--- how the remainder stands to half the divisor, by the tests
-returns : tie.Need-returns
-returns c =
-    let m = c .before in
-    let s = m .before in
-    q-is s ∙ below (s .args .x) (s .args .d) (s .pre) (s .args .tie) (omega (arith, size-is m, ap natAbs (d-back s), c .if1 .taken))
+tie-goes-on-requires : tie.Need-tie-goes-on-requires
+tie-goes-on-requires c κs = search needs
 
-above-half : (c : tie.Then2) → let s = c .before .before .before in natAbs (s .args .d) < 2 * natAbs (remZ (s .args .x) (s .args .d))
-above-half c = let m = c .before .before in omega (arith, size-is m, ap natAbs (d-back (m .before)), c .if2 .taken)
+module _ (c : tie.After-tie-goes-on) where
+  abbrev start : tie.Start
+  start = c .before .before
 
-at-half : (c : tie.Else2) → let s = c .before .before .before in 2 * natAbs (remZ (s .args .x) (s .args .d)) ≡ natAbs (s .args .d)
-at-half c = let m = c .before .before in omega (arith, size-is m, size-below m, ap natAbs (d-back (m .before)), c .if2 .left, c .before .if1 .left)
+  abbrev quotient : ℕ
+  quotient = natAbs (quotZ (start .args .x) (start .args .d))
+
+  abbrev rest : ℕ
+  rest = natAbs (remZ (start .args .x) (start .args .d))
+
+  abbrev left : ℕ
+  left = natAbs (start .args .d) - rest
+
+  left-is : left + rest ≡ natAbs (start .args .d)
+  left-is = omega (arith, size-is (c .before), size-below (c .before))
+
+  tie-is : onTie (start .args .tie) quotient ≡ quotient + cond (c .tie-goes-on .result) 1 0
+  tie-is = rw (q-is start) at (c .tie-goes-on .ensures)
+
+  abbrev goes : ℤ → ℕ → Bool
+  goes d r = ltb (natAbs d - r) r || (eqb (natAbs d - r) r && c .tie-goes-on .result)
+
+  -- what the machine tests
+  test-is : goes (toZ w64 (ofZ w64 (start .args .d))) (c .before .magnitude .result) ≡ goes (start .args .d) rest
+  test-is = ap₂ goes (d-back start) (size-is (c .before))
+
+goes-is : (c : tie.Then1) → let a = c .before in goes a (start a .args .d) (rest a) ≡ true
+goes-is c = sym (test-is (c .before)) ∙ c .if1 .taken
+
+reached : (l r d : ℕ) (g : Bool) → ltb l r || (eqb l r && g) ≡ true → l + r ≡ d → d ≤ 2 * r
+reached l r d g h e = go (ltb l r) (eqb l r) refl refl h
+  where
+    go : (s u : Bool) → ltb l r ≡ s → eqb l r ≡ u → s || (u && g) ≡ true → d ≤ 2 * r
+    go true u p q h = omega (arith, ltb-true l r p, e)
+    go false true p q h = omega (arith, eqb-true l r q, e)
+    go false false p q h = absurd (true≢false (sym h))
 
 farther-requires : tie.Need-farther-requires
 farther-requires c κs =
-    let s = c .before .before .before in
-    rw (q-is s) (q-small s (omega (arith, above-half c)))
+    let a = c .before in
+    let s = start a in
+    rw (q-is s) (q-small s (reached (left a) (rest a) _ (a .tie-goes-on .result) (goes-is c) (left-is a)))
+
+returns : tie.Need-returns
+returns c =
+    let t = c .before in
+    let a = t .before in
+    let s = start a in
+    farther-is s (record { sfits = c .farther .ok }) (q-is s) (x-back s) (c .farther .ensures)
+    ∙ goes-on (s .args .x) (s .args .d) (s .pre) (s .args .tie) (left a) (a .tie-goes-on .result) (left-is a) (tie-is a) (goes-is t)
 
 returns-2 : tie.Need-returns-2
 returns-2 c =
-    let s = c .before .before .before .before in
-    farther-is s (record { sfits = c .farther .ok }) (q-is s) (x-back s) (c .farther .ensures) ∙ above (s .args .x) (s .args .d) (s .pre) (s .args .tie) (above-half (c .before))
-
-enum-told : tie.Need-enum-told
-enum-told c = search needs
-
--- a quotient that small, and its parity
-within : (c : tie.Else2) → let s = c .before .before .before in Within (val (quotZ (s .args .x) (s .args .d)) ∷ []) (4611686018427387903 ∷ [])
-within c = let s = c .before .before .before in q-half s (omega (arith, at-half c)) ▹ done
-
-abbrev to-even : Op
-to-even = add (arg 0) (rem (arg 0) (lit (pos 2)))
-
-returns-3 : tie.Need-returns-3
-returns-3 c =
-    let e = c .before .before in
-    let s = e .before .before .before in
-    rw (x-back s, d-back s) (runs (within e) to-even tt) ∙ even (s .args .x) (s .args .d) (s .pre) (at-half e) ∙ ap (λ t. rounded t (s .args .x) (natAbs (s .args .d))) (sym (c .enum-told .given .1))
-
-rem-result : tie.Need-rem-result
-rem-result c = let e = c .before .before in rw (q-is (e .before .before .before)) (lit< tt, fits (within e) (quo (arg 0) (lit (pos 2))) tt)
-
-add-result : tie.Need-add-result
-add-result c = let e = c .before .before in let s = e .before .before .before in rw (x-back s, d-back s) (safe (within e) to-even tt)
-
-enum-told-2 : tie.Need-enum-told-2
-enum-told-2 c = search needs
-
-farther-requires-2 : tie.Need-farther-requires-2
-farther-requires-2 c κs =
-    let e = c .before .before in
-    let s = e .before .before .before in
-    rw (q-is s) (q-small s (omega (arith, at-half e)))
-
-returns-4 : tie.Need-returns-4
-returns-4 c =
-    let e = c .before .before .before in
-    let s = e .before .before .before in
-    farther-is s (record { sfits = c .farther2 .ok }) (q-is s) (x-back s) (c .farther2 .ensures)
-    ∙ away (s .args .x) (s .args .d) (s .pre) (at-half e) ∙ ap (λ t. rounded t (s .args .x) (natAbs (s .args .d))) (sym (c .before .enum-told2 .given .1))
+    let a = c .before in
+    let s = start a in
+    q-is s
+    ∙ stays (s .args .x) (s .args .d) (s .pre) (s .args .tie) (left a) (a .tie-goes-on .result) (left-is a) (tie-is a)
+    (sym (test-is a) ∙ c .if1 .left)
 
 pub rounded-spec : {M : Type 1} → statement M
-rounded-spec = tie.close (tie.spec div-q rem-r magnitude-requires cast-left sub-left returns farther-requires returns-2 enum-told rem-result add-result enum-told-2 farther-requires-2 returns-3 returns-4)
+rounded-spec =
+    tie.close
+    (tie.spec
+    div-q
+    rem-r
+    magnitude-requires
+    cast-left
+    sub-left
+    tie-goes-on-requires
+    farther-requires
+    returns
+    returns-2)

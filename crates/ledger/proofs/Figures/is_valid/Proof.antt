@@ -13,13 +13,14 @@ within-spread-requires : tie.Need-within-spread-requires
 within-spread-requires c κs = search needs
 
 returns : tie.Need-returns
-returns c = rw (c .within-spread .ensures, c .before .terms .ensures, c .before .before .is-two-sided .ensures)
+returns c =
+    let s = c .before .before .before in
+    rw (c .within-spread .ensures, c .before .terms .ensures, ← s .is-two-sided .ensures, c .before .before .if1 .taken)
+
+returns-2 : tie.Need-returns-2
+returns-2 c = rw (← c .before .is-two-sided .ensures, c .if1 .left)
 
 pub is-valid-spec : {M : Type 1} → statement M
 is-valid-spec =
     tie.close
-    (tie.spec
-    is-two-sided-requires
-    terms-requires
-    within-spread-requires
-    returns)
+    (tie.spec is-two-sided-requires terms-requires within-spread-requires returns returns-2)

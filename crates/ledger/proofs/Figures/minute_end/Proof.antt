@@ -1,4 +1,4 @@
--- `ledger::Figures::minute_end` meets its contract: the refusals in their order, or the day after the minute. Assumes nothing.
+-- `ledger::Figures::minute_end` meets its contract: its refusal, or the day after the minute. Assumes nothing.
 use mathlib.Core.Path.{_≡_, refl, sym, _∙_}
 use mathlib.Core.Bool.{true, not, _||_}
 use mathlib.Core.List.{_∷_, []}
@@ -9,10 +9,8 @@ use borrow.Author.Tests.{leb-false, not-false, not-true, eqb-false}
 use borrow.Author.Needs.{needs}
 use Rattle.funding.specs.Minute.{withinSpread}
 use Rattle.funding.specs.Price.{isGiven}
-use Rattle.ledger.specs.Columns.{accounts}
 use Rattle.ledger.specs.Day.{termsOn, twoSided, isFixed, isValid}
 use Rattle.ledger.specs.Effects.{figuresAfter, fixingOf}
-use Rattle.ledger.specs.Inner.{figuresRefusal}
 use Rattle.ledger.specs.Limits.{noneOrPrice}
 use Rattle.ledger.specs.Refusals.{isFull, orElse}
 use Rattle.ledger.specs.declared.Figures.{Figures}
@@ -36,21 +34,8 @@ given f u v =
     some zero h = absurd (h refl)
     some (suc u) h = omega arith
 
--- the number
-code-is : (c : tie.After-or-else2) → let a = c .before .before .before .before .before .before .before .args in c .or-else2 .result ≡ figuresRefusal accounts (a .self) (call.MinuteEnd (a .index))
-code-is c = c .or-else2 .ensures ∙ rw (c .before .or-else .ensures, c .before .before .none-or-price .ensures, c .before .before .before .before .before .is-full .ensures)
-
-is-full-requires : tie.Need-is-full-requires
-is-full-requires c κs = search needs
-
-none-or-price-requires : tie.Need-none-or-price-requires
-none-or-price-requires c κs = search needs
-
-or-else-requires : tie.Need-or-else-requires
-or-else-requires c κs = search needs
-
-or-else-requires-2 : tie.Need-or-else-requires-2
-or-else-requires-2 c κs = search needs
+minute-end-code-requires : tie.Need-minute-end-code-requires
+minute-end-code-requires c κs = search needs
 
 refused-requires : tie.Need-refused-requires
 refused-requires c κs = search needs
@@ -58,8 +43,8 @@ refused-requires c κs = search needs
 returns : tie.Need-returns
 returns c =
     let t = c .before in
-    let a = t .before .before .before .before .before .before .before .before .args in
-    refused-is (a .self) (call.MinuteEnd (a .index)) (code-is (t .before)) (t .if1 .taken) (c .refused .ensures)
+    let a = t .before .before .args in
+    refused-is (a .self) (call.MinuteEnd (a .index)) (t .before .minute-end-code .ensures) (t .if1 .taken) (c .refused .ensures)
 
 is-valid-requires : tie.Need-is-valid-requires
 is-valid-requires c κs = search needs
@@ -67,13 +52,13 @@ is-valid-requires c κs = search needs
 minute-ended-requires : tie.Need-minute-ended-requires
 minute-ended-requires c κs =
     let t = c .before in
-    let s = t .before .before .before .before .before .before .before .before in
+    let s = t .before .before in
     let f = s .args .self in
     let d = f .day in
     let u = s .args .index in
     let h = held-figures f (s .pre) in
     let over = leb 1320 (d .minutes) || isFixed d in
-    let day = unmet (isFull f || over) 2 (orElse (not (noneOrPrice u)) 5 0) (sym (code-is (t .before)) ∙ t .if1 .left) in
+    let day = unmet (isFull f || over) 2 (orElse (not (noneOrPrice u)) 5 0) (sym (t .before .minute-end-code .ensures) ∙ t .if1 .left) in
     let field = unmet (not (noneOrPrice u)) 4 0 (day .1) in
     let before = leb-false 1320 (d .minutes) (none (leb 1320 (d .minutes)) (isFixed d ∷ []) (none (isFull f) (over ∷ []) (day .0) 1) 0) in
     let valid : c .is-valid .result ≡ true → isValid (termsOn (f .closed)) (f .halted) (d .minute) u ≡ true = λ e. sym (c .is-valid .ensures) ∙ e in
@@ -91,17 +76,14 @@ returns-2 : tie.Need-returns-2
 unfolding figuresAfter fixingOf
 returns-2 c =
     let t = c .before .before .before in
-    let a = t .before .before .before .before .before .before .before .before .args in
-    accepted-is (a .self) (call.MinuteEnd (a .index)) (code-is (t .before)) (t .if1 .left) (c .accepted .ensures ∙ rw (c .before .minute-ended .ensures, c .before .before .is-valid .ensures))
+    let a = t .before .before .args in
+    accepted-is (a .self) (call.MinuteEnd (a .index)) (t .before .minute-end-code .ensures) (t .if1 .left) (c .accepted .ensures ∙ rw (c .before .minute-ended .ensures, c .before .before .is-valid .ensures))
 
 pub minute-end-spec : {M : Type 1} → statement M
 minute-end-spec =
     tie.close
     (tie.spec
-    is-full-requires
-    none-or-price-requires
-    or-else-requires
-    or-else-requires-2
+    minute-end-code-requires
     refused-requires
     returns
     is-valid-requires

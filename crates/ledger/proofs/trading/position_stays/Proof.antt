@@ -1,21 +1,29 @@
--- `ledger::trading::position_stays` meets its contract: the two accounts' positions after the trade. Assumes nothing.
+-- `ledger::trading::position_stays` meets its contract: the two accounts' positions after the trade, of which the
+-- buyer's doesn't fall and the seller's doesn't rise. Assumes nothing.
+use mathlib.Core.Path.{_≡_, refl, sym}
 use mathlib.Core.List.{_∷_, []}
-use Prim.Native.Nat.{_≤_}
+use Prim.Native.Nat.{suc, _≤_}
 use native.Mathlib.Omega.{arith}
 use lib.Dec.{eqb}
+use lib.IntN.{ℤ, pos, negsuc, negℤ, _+ℤ_, _-ℤ_}
+use lib.Signed.{leZ}
 use mir.Syntax.{w32}
 use mir.Val.{Fits}
+use borrow.Author.Tests.{le-leb}
 use borrow.Author.Needs.{needs}
+use Rattle.integers.proofs.Laws.{up, dn, add-is, neg-up, neg-dn}
+use Rattle.integers.proofs.Order.{size, apart}
 use Rattle.integers.proofs.Overflow.{arg, add, sub, val, nat, Within, _▹_, done, safe, runs}
-use Rattle.funding.proofs.Tests.{by-test}
+use Rattle.funding.proofs.Tests.{by-test, leb-same}
 use Rattle.ledger.specs.Columns.{entry}
+use Rattle.ledger.specs.Limits.{within}
 use Rattle.ledger.proofs.Raised.{buyer-entry, seller-entry}
 use Rattle.ledger.proofs.trading.position_stays.Statement.{statement}
 use Rattle.ledger.proofs.trading.position_stays.Tie as tie
 
-within : (c : tie.After-moves) → let s = c .before .before .before in
+limits : (c : tie.After-moves) → let s = c .before .before .before in
     Within (val (entry (s .args .position .now) (s .args .t .buyer)) ∷ val (entry (s .args .position .now) (s .args .t .seller)) ∷ nat (c .moves .result) ∷ []) (1200000 ∷ 1200000 ∷ 4294967295 ∷ [])
-within c =
+limits c =
     let s = c .before .before .before in
     let t = s .args .t in
     let f : Fits w32 (t .quantity) = search needs in
@@ -41,7 +49,7 @@ element-copy-out-bought : tie.Need-element-copy-out-bought
 element-copy-out-bought c = search needs
 
 add-bought : tie.Need-add-bought
-add-bought c = safe (within (c .before)) (add (arg 0) (arg 2)) tt
+add-bought c = safe (limits (c .before)) (add (arg 0) (arg 2)) tt
 
 mul-sold : tie.Need-mul-sold
 mul-sold c = search needs
@@ -50,28 +58,41 @@ element-copy-out-sold : tie.Need-element-copy-out-sold
 element-copy-out-sold c = search needs
 
 sub-sold : tie.Need-sub-sold
-sub-sold c = safe (within (c .before .before)) (sub (arg 1) (arg 2)) tt
+sub-sold c = safe (limits (c .before .before)) (sub (arg 1) (arg 2)) tt
 
-is-within-requires : tie.Need-is-within-requires
-is-within-requires c κs = search needs
+cast-most : tie.Need-cast-most
+cast-most c = search needs
 
-is-within-requires-2 : tie.Need-is-within-requires-2
-is-within-requires-2 c κs = search needs
+sub-result : tie.Need-sub-result
+sub-result c = search needs
+
+-- a number that is not far below zero is within its limit where it is not above it, and the other way round
+not-above : (z : ℤ) → dn z ≤ 1200000 → leZ z (pos 1200000) ≡ within z 1200000
+not-above (pos n) h = refl
+not-above (negsuc n) h = sym (le-leb (suc n) 1200000 h)
+
+not-below : (z : ℤ) → up z ≤ 1200000 → leZ (negsuc 1199999) z ≡ within z 1200000
+not-below (pos n) h = sym (le-leb n 1200000 h)
+not-below (negsuc n) h = leb-same n 1199999 (suc n) 1200000 (λ k. omega arith) (λ k. omega arith)
 
 returns : tie.Need-returns
 returns c =
-    let m = c .before .before .before .before in
+    let m = c .before .before in
     let s = m .before .before .before in
+    let l = s .args .position .now in
     let t = s .args .t in
     let p = s .pre in
+    let q = pos (m .moves .result) in
+    let b = entry l (t .buyer) in
+    let a = entry l (t .seller) in
     rw (
-      c .before .is-within .ensures,
-      c .is-within2 .ensures,
-      runs (within m) (add (arg 0) (arg 2)) tt,
-      runs (within m) (sub (arg 1) (arg 2)) tt,
+      runs (limits m) (add (arg 0) (arg 2)) tt,
+      runs (limits m) (sub (arg 1) (arg 2)) tt,
+      not-above (b +ℤ q) (omega (arith, p .buyer, size b, add-is b q, apart (b +ℤ q))),
+      not-below (a -ℤ q) (omega (arith, p .seller, size a, add-is a (negℤ q), neg-up q, neg-dn q, apart (a -ℤ q))),
       m .moves .ensures,
-      buyer-entry (s .args .position .now) (t .buyer) (t .seller) (t .quantity) (p .buyer-in) (p .seller-in),
-      seller-entry (s .args .position .now) (t .buyer) (t .seller) (t .quantity) (p .buyer-in) (p .seller-in),
+      buyer-entry l (t .buyer) (t .seller) (t .quantity) (p .buyer-in) (p .seller-in),
+      seller-entry l (t .buyer) (t .seller) (t .quantity) (p .buyer-in) (p .seller-in),
     )
 
 pub position-stays-spec : {M : Type 1} → statement M
@@ -88,6 +109,6 @@ position-stays-spec =
     mul-sold
     element-copy-out-sold
     sub-sold
-    is-within-requires
-    is-within-requires-2
+    cast-most
+    sub-result
     returns)
