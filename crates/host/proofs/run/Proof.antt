@@ -52,8 +52,8 @@ returns-2 c =
     let s = r .before .before .before .before .before .before .before .before .before in
     c .ended2 .ensures ∙ ends (r .before .loop .inv) (calls-at-cut-off (s .args .file .now) (r .before .loop .at) (sym (r .read-record .ensures) ∙ c .before .enum-told2 .given .1))
 
-enum-known-call : tie.Need-enum-known-call Inv-loop μ-loop
-enum-known-call c = search needs
+enum-known-next : tie.Need-enum-known-next Inv-loop μ-loop
+enum-known-next c = search needs
 
 step-on-requires : tie.Need-step-on-requires Inv-loop μ-loop
 step-on-requires c κs = c .before .before .before .before .before .before .before .before .before .loop .inv .within
@@ -67,7 +67,7 @@ loop-less : tie.Need-loop-less Inv-loop μ-loop
 loop-less c =
     let r = c .before .before .before .before .before .before .before .before .before .before .before in
     let s = r .before .before .before .before .before .before .before .before .before in
-    let k = c .before .before .before .before .before .before .before .before .before .call in
+    let k = c .before .before .before .before .before .before .before .before .before .next in
     omega (arith, forward-to (s .args .file .now) (r .before .loop .at) (read.Known (k .given .0 .0) (k .given .0 .1 .0)) (sym (r .read-record .ensures) ∙ k .given .1))
 
 loop-again : tie.Need-loop-again Inv-loop μ-loop
@@ -75,50 +75,50 @@ loop-again c =
     let r = c .before .before .before .before .before .before .before .before .before .before .before in
     let l = r .before .loop in
     let s = r .before .before .before .before .before .before .before .before .before in
-    let k = c .before .before .before .before .before .before .before .before .before .call in
+    let k = c .before .before .before .before .before .before .before .before .before .next in
     let e = sym (r .read-record .ensures) ∙ k .given .1 in
     let on = forward-to (s .args .file .now) (l .at) (read.Known (k .given .0 .0) (k .given .0 .1 .0)) e in
     let a = c .before .before .step-on .ensures in
     equal (ap (λ (x : Answer). x .book) a) (c .count .ensures ∙ ap (λ (x : Answer). l .accepted + cond (eqb (x .code) 0) 1 0) a)
-    (steps (l .inv) (k .given .0 .0) (k .given .0 .1 .0) (omega (arith, on .0)) (on .1) (calls-at-known (s .args .file .now) (l .at) (k .given .0 .0) (k .given .0 .1 .0) e))
+    (steps (l .inv) (k .given .0 .1 .0) (k .given .0 .0) (omega (arith, on .0)) (on .1) (calls-at-known (s .args .file .now) (l .at) (k .given .0 .1 .0) (k .given .0 .0) e))
 
-enum-known-next : tie.Need-enum-known-next Inv-loop μ-loop
-enum-known-next c = search needs
+enum-known-next-2 : tie.Need-enum-known-next-2 Inv-loop μ-loop
+enum-known-next-2 c = search needs
 
 loop-less-2 : tie.Need-loop-less-2 Inv-loop μ-loop
 loop-less-2 c =
     let r = c .before .before .before in
     let s = r .before .before .before .before .before .before .before .before .before in
-    let next = c .before .next .given .0 .0 in
-    omega (arith, forward-to (s .args .file .now) (r .before .loop .at) (read.WrongLength next) (sym (r .read-record .ensures) ∙ c .before .next .given .1))
+    let next = c .before .next2 .given .0 .0 in
+    omega (arith, forward-to (s .args .file .now) (r .before .loop .at) (read.WrongLength next) (sym (r .read-record .ensures) ∙ c .before .next2 .given .1))
 
 loop-again-2 : tie.Need-loop-again-2 Inv-loop μ-loop
 loop-again-2 c =
     let r = c .before .before .before in
     let l = r .before .loop in
     let s = r .before .before .before .before .before .before .before .before .before in
-    let next = c .before .next .given .0 .0 in
-    let e = sym (r .read-record .ensures) ∙ c .before .next .given .1 in
+    let next = c .before .next2 .given .0 .0 in
+    let e = sym (r .read-record .ensures) ∙ c .before .next2 .given .1 in
     let on = forward-to (s .args .file .now) (l .at) (read.WrongLength next) e in
     skips (l .inv) next (omega (arith, on .0)) (on .1) (calls-at-wrong-length (s .args .file .now) (l .at) next e)
 
-enum-known-next-2 : tie.Need-enum-known-next-2 Inv-loop μ-loop
-enum-known-next-2 c = search needs
+enum-known-next-3 : tie.Need-enum-known-next-3 Inv-loop μ-loop
+enum-known-next-3 c = search needs
 
 loop-less-3 : tie.Need-loop-less-3 Inv-loop μ-loop
 loop-less-3 c =
     let r = c .before .before .before in
     let s = r .before .before .before .before .before .before .before .before .before in
-    let next = c .before .next2 .given .0 .0 in
-    omega (arith, forward-to (s .args .file .now) (r .before .loop .at) (read.Unknown next) (sym (r .read-record .ensures) ∙ c .before .next2 .given .1))
+    let next = c .before .next3 .given .0 .0 in
+    omega (arith, forward-to (s .args .file .now) (r .before .loop .at) (read.Unknown next) (sym (r .read-record .ensures) ∙ c .before .next3 .given .1))
 
 loop-again-3 : tie.Need-loop-again-3 Inv-loop μ-loop
 loop-again-3 c =
     let r = c .before .before .before in
     let l = r .before .loop in
     let s = r .before .before .before .before .before .before .before .before .before in
-    let next = c .before .next2 .given .0 .0 in
-    let e = sym (r .read-record .ensures) ∙ c .before .next2 .given .1 in
+    let next = c .before .next3 .given .0 .0 in
+    let e = sym (r .read-record .ensures) ∙ c .before .next3 .given .1 in
     let on = forward-to (s .args .file .now) (l .at) (read.Unknown next) e in
     skips (l .inv) next (omega (arith, on .0)) (on .1) (calls-at-unknown (s .args .file .now) (l .at) next e)
 
@@ -136,14 +136,14 @@ run-spec =
     enum-told-2
     ended-requires-2
     returns-2
-    enum-known-call
+    enum-known-next
     step-on-requires
     count-requires
     loop-less
     loop-again
-    enum-known-next
+    enum-known-next-2
     loop-less-2
     loop-again-2
-    enum-known-next-2
+    enum-known-next-3
     loop-less-3
     loop-again-3)
