@@ -10,7 +10,6 @@ use crate::Call;
 use crate::Day;
 use crate::Figures;
 use crate::Outcome;
-use crate::quoting::or_else;
 use funding::Previous;
 
 // What a close adds to an account's cash. Numbers within their limits are asked, so that the sums fit.
@@ -73,10 +72,8 @@ pub fn close_on(
     requires { ⌜ Closable figures (now opening) (now position) (now cost) (now cash) ⌝ }
     ensures { λ r. ⌜ answerOf r (now (opening .exit)) (now (position .entry)) (now (cost .exit)) (now (volume .exit)) (now (cash .exit)) ≡ answered accounts (bookOf figures (now (opening .entry)) (now (position .entry)) (now (cost .entry)) (now (volume .entry)) (now (cash .entry))) Call.Close ⌝ }
 {
-    let unfixed = !(figures.day.price != 0);
-    let code = or_else(figures.is_full() | unfixed, 3, 0);
-    if code != 0 {
-        return figures.refused(code);
+    if figures.is_full() | !(figures.day.price != 0) {
+        return figures.refused(3);
     }
     post(figures, opening, position, cost, cash);
     *opening = *position;

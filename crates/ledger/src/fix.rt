@@ -1,7 +1,7 @@
 // The fix of a day's settlement price and funding amount.
 ghost use mathlib.Core.Path.{_≡_};
 ghost use Rattle.ledger.specs.Columns.{accounts};
-ghost use Rattle.ledger.specs.Effects.{fixed, fixingAt};
+ghost use Rattle.ledger.specs.Effects.{fixed, fixingAt, priceAt};
 ghost use Rattle.ledger.specs.Inner.{outcome, figuresRefusal, Fixable};
 use crate::Call;
 use crate::DAY_LENGTH;
@@ -11,7 +11,6 @@ use crate::Fixing;
 use crate::Outcome;
 use crate::limits::none_or_price;
 use crate::product::Product;
-use crate::quoting::or_else;
 use integers::Tie;
 
 impl Day {
@@ -41,20 +40,34 @@ impl Figures {
         }
     }
 
+    // The number of a fix's refusal, 0 for none, where the price that it finds is this one.
+    fn fix_code(self, set: u32, price: u32) -> u8
+        requires { ⌜ price ≡ priceAt self set ⌝ }
+        ensures { λ r. ⌜ r ≡ figuresRefusal accounts self (Call.Fix set) ⌝ }
+    {
+        if self.is_full() | ((self.day.minutes < DAY_LENGTH) | (self.day.price != 0)) {
+            return 3;
+        }
+        if !none_or_price(set) {
+            return 5;
+        }
+        if !(price != 0) {
+            return 9;
+        }
+        0
+    }
+
     pub(crate) fn fix(self, set: u32) -> Outcome
         requires { ⌜ Fixable self ⌝ }
         ensures { λ r. ⌜ r ≡ outcome self (figuresRefusal accounts self (Call.Fix set)) (Call.Fix set) ⌝ }
     {
-        let day = self.day;
         let fixing = self.fixing(set);
-        let early = self.is_full() | ((day.minutes < DAY_LENGTH) | (day.price != 0));
-        let own = or_else(!none_or_price(set), 5, or_else(!(fixing.price != 0), 9, 0));
-        let code = or_else(early, 3, own);
+        let code = self.fix_code(set, fixing.price);
         if code != 0 {
             return self.refused(code);
         }
         let mut after = self;
-        after.day = day.fixed(fixing.price, fixing.amount);
+        after.day = self.day.fixed(fixing.price, fixing.amount);
         Outcome {
             code: 0,
             fixing,

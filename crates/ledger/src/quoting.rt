@@ -3,7 +3,7 @@ ghost use mathlib.Core.Path.{_≡_};
 ghost use Rattle.ledger.specs.Columns.{accounts};
 ghost use Rattle.ledger.specs.Day.{asMinute};
 ghost use Rattle.ledger.specs.Effects.{withMarkets, quoted};
-ghost use Rattle.ledger.specs.Refusals.{orElse, isFull};
+ghost use Rattle.ledger.specs.Refusals.{isFull};
 ghost use Rattle.ledger.specs.Inner.{outcome, figuresRefusal};
 ghost use Rattle.ledger.specs.Inner.{refused as Inner·refused};
 ghost use Rattle.ledger.specs.Inner.{accepted as Inner·accepted};
@@ -15,13 +15,6 @@ use crate::MOST_DAYS;
 use crate::Market;
 use crate::Outcome;
 use crate::limits::none_or_ticked;
-
-// The number of a sentence that is met, or what follows it.
-pub fn or_else(met: bool, number: u8, rest: u8) -> u8
-    ensures { λ r. ⌜ r ≡ orElse met number rest ⌝ }
-{
-    if met { number } else { rest }
-}
 
 impl Figures {
     pub(crate) fn refused(self, code: u8) -> Outcome
@@ -51,13 +44,29 @@ impl Figures {
         MOST_DAYS <= self.closed
     }
 
+    // The number of a quote's refusal, 0 for none.
+    fn quote_code(self, market: Market) -> u8
+        ensures { λ r. ⌜ r ≡ figuresRefusal accounts self (Call.Quote market) ⌝ }
+    {
+        if self.is_full() {
+            return 3;
+        }
+        if self.halted {
+            return 4;
+        }
+        if !(none_or_ticked(market.bid) & none_or_ticked(market.offer)) {
+            return 5;
+        }
+        if !market.is_uncrossed() {
+            return 6;
+        }
+        0
+    }
+
     pub(crate) fn quote(self, market: Market) -> Outcome
         ensures { λ r. ⌜ r ≡ outcome self (figuresRefusal accounts self (Call.Quote market)) (Call.Quote market) ⌝ }
     {
-        let unticked = !(none_or_ticked(market.bid) & none_or_ticked(market.offer));
-        let crossed = !market.is_uncrossed();
-        let own = or_else(unticked, 5, or_else(crossed, 6, 0));
-        let code = or_else(self.is_full(), 3, or_else(self.halted, 4, own));
+        let code = self.quote_code(market);
         if code != 0 {
             return self.refused(code);
         }
@@ -66,10 +75,23 @@ impl Figures {
         after.accepted()
     }
 
+    // The number of a halt's refusal, 0 for none.
+    fn halt_code(self) -> u8
+        ensures { λ r. ⌜ r ≡ figuresRefusal accounts self Call.Halt ⌝ }
+    {
+        if self.is_full() {
+            return 3;
+        }
+        if self.halted {
+            return 4;
+        }
+        0
+    }
+
     pub(crate) fn halt(self) -> Outcome
         ensures { λ r. ⌜ r ≡ outcome self (figuresRefusal accounts self Call.Halt) Call.Halt ⌝ }
     {
-        let code = or_else(self.is_full(), 3, or_else(self.halted, 4, 0));
+        let code = self.halt_code();
         if code != 0 {
             return self.refused(code);
         }
@@ -79,10 +101,23 @@ impl Figures {
         after.accepted()
     }
 
+    // The number of a resumption's refusal, 0 for none.
+    fn resume_code(self) -> u8
+        ensures { λ r. ⌜ r ≡ figuresRefusal accounts self Call.Resume ⌝ }
+    {
+        if self.is_full() {
+            return 3;
+        }
+        if !self.halted {
+            return 4;
+        }
+        0
+    }
+
     pub(crate) fn resume(self) -> Outcome
         ensures { λ r. ⌜ r ≡ outcome self (figuresRefusal accounts self Call.Resume) Call.Resume ⌝ }
     {
-        let code = or_else(self.is_full(), 3, or_else(!self.halted, 4, 0));
+        let code = self.resume_code();
         if code != 0 {
             return self.refused(code);
         }

@@ -1,27 +1,14 @@
--- `ledger::Figures::halt` meets its contract: the refusals in their order, or a halt with no market. Assumes nothing.
-use mathlib.Core.Path.{_≡_, _∙_}
-use mathlib.Core.Bool.{or-false}
+-- `ledger::Figures::halt` meets its contract: its refusal, or a halt with no market. Assumes nothing.
+use mathlib.Core.Path.{_∙_}
 use borrow.Author.Needs.{needs}
-use Rattle.ledger.specs.Columns.{accounts}
 use Rattle.ledger.specs.Effects.{figuresAfter, fixingOf}
-use Rattle.ledger.specs.Inner.{figuresRefusal}
 use Rattle.ledger.specs.declared.Call.the-variants as call
 use Rattle.ledger.proofs.Outcomes.{refused-is, accepted-is}
 use Rattle.ledger.proofs.Figures.halt.Statement.{statement}
 use Rattle.ledger.proofs.Figures.halt.Tie as tie
 
--- the number
-code-is : (c : tie.After-or-else2) → c .or-else2 .result ≡ figuresRefusal accounts (c .before .before .before .args .self) call.Halt
-code-is c = c .or-else2 .ensures ∙ rw (or-false, c .before .or-else .ensures, c .before .before .is-full .ensures)
-
-is-full-requires : tie.Need-is-full-requires
-is-full-requires c κs = search needs
-
-or-else-requires : tie.Need-or-else-requires
-or-else-requires c κs = search needs
-
-or-else-requires-2 : tie.Need-or-else-requires-2
-or-else-requires-2 c κs = search needs
+halt-code-requires : tie.Need-halt-code-requires
+halt-code-requires c κs = search needs
 
 refused-requires : tie.Need-refused-requires
 refused-requires c κs = search needs
@@ -29,8 +16,8 @@ refused-requires c κs = search needs
 returns : tie.Need-returns
 returns c =
     let t = c .before in
-    let a = t .before .before .before .before .args in
-    refused-is (a .self) call.Halt (code-is (t .before)) (t .if1 .taken) (c .refused .ensures)
+    let a = t .before .before .args in
+    refused-is (a .self) call.Halt (t .before .halt-code .ensures) (t .if1 .taken) (c .refused .ensures)
 
 none-requires : tie.Need-none-requires
 none-requires c κs = search needs
@@ -48,16 +35,14 @@ returns-2 : tie.Need-returns-2
 unfolding figuresAfter fixingOf
 returns-2 c =
     let t = c .before .before .before .before in
-    let a = t .before .before .before .before .args in
-    accepted-is (a .self) call.Halt (code-is (t .before)) (t .if1 .left) (c .accepted .ensures ∙ rw (c .before .with-markets .ensures, c .before .before .none2 .ensures, c .before .before .before .none .ensures))
+    let a = t .before .before .args in
+    accepted-is (a .self) call.Halt (t .before .halt-code .ensures) (t .if1 .left) (c .accepted .ensures ∙ rw (c .before .with-markets .ensures, c .before .before .none2 .ensures, c .before .before .before .none .ensures))
 
 pub halt-spec : {M : Type 1} → statement M
 halt-spec =
     tie.close
     (tie.spec
-    is-full-requires
-    or-else-requires
-    or-else-requires-2
+    halt-code-requires
     refused-requires
     returns
     none-requires
