@@ -1,15 +1,21 @@
-//! Times the proved library and the Rust ledger on the same files: see benchmarks/run.
+//! Times the proved library and the Rust ledger on the same files, and a trade by value against a
+//! copy of the book: see benchmarks/run.
 
 use benchmarks::inputs::{self, Input};
 use benchmarks::ACCOUNTS;
 use std::ffi::c_long;
 use std::hint::black_box;
+use std::process::Command;
 use std::time::{Duration, Instant};
 
 /// A round takes about this long, or one run of a long file: short, so that some go undisturbed.
 const ROUND: Duration = Duration::from_millis(2);
 /// How long the rounds of a file take together.
 const ROUNDS: Duration = Duration::from_secs(4);
+/// The bytes of a book: its figures, and for each account four columns of eight bytes and one of four.
+const BOOK: usize = 96 + ACCOUNTS * (4 * 8 + 4);
+/// The trades of one run of trade-bench.
+const TRADES: u32 = 1_000_000;
 
 type Run = fn(u8, &[u8], &mut [i64], &mut [i64]) -> u64;
 
@@ -106,7 +112,36 @@ fn best(input: &Input) -> (f64, f64) {
     (per_record(proved), per_record(plain))
 }
 
-fn main() {
+/// The best round of copies of a book, in nanoseconds each.
+fn copy() -> f64 {
+    let (from, mut to) = ([1; BOOK], [0; BOOK]);
+    let mut best = Duration::MAX;
+    let start = Instant::now();
+    while start.elapsed() < ROUNDS {
+        let round = processor_time();
+        for _ in 0..TRADES / 10 {
+            to = *black_box(&from);
+            black_box(&mut to);
+        }
+        best = best.min(processor_time() - round);
+    }
+    best.as_nanos() as f64 / f64::from(TRADES / 10)
+}
+
+/// The best run of the program, in nanoseconds a trade. What it takes to start is counted.
+fn trade_by_value(program: &str) -> f64 {
+    let mut best = Duration::MAX;
+    let start = Instant::now();
+    while start.elapsed() < ROUNDS {
+        let round = Instant::now();
+        let output = Command::new(program).output().expect("trade-bench runs");
+        best = best.min(round.elapsed());
+        assert_eq!(output.stdout, format!("{TRADES}\n").as_bytes());
+    }
+    best.as_nanos() as f64 / f64::from(TRADES)
+}
+
+fn runs() {
     println!("| file | records | library, ns a record | Rust, ns a record | library / Rust |");
     println!("|---|---|---|---|---|");
     for input in inputs::all() {
@@ -119,4 +154,14 @@ fn main() {
             proved / plain
         );
     }
+}
+
+fn main() {
+    let program = std::env::args().nth(1).expect("the path of trade-bench");
+    runs();
+    let (trade, copy) = (trade_by_value(&program), copy());
+    println!();
+    println!("| a trade by value, ns | a copy of the book, ns | trade / copy |");
+    println!("|---|---|---|");
+    println!("| {trade:.0} | {copy:.0} | {:.1} |", trade / copy);
 }

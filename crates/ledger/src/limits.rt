@@ -134,11 +134,19 @@ fn account_holds(closed: u32, opening: i64, position: i64, cost: i64, v: u32, ca
     requires { ⌜ closed ≤ 2600 ⌝ }
     ensures { λ r. ⌜ r ≡ accountHolds closed opening position cost v cash ⌝ }
 {
-    is_within(opening, MOST_POSITION)
-        & is_within(position, MOST_POSITION)
-        & (v <= MOST_VOLUME)
-        & is_within(cost, v as u64 * LARGEST_PRICE as u64)
-        & is_within(cash, closed as u64 * MOST_POSTING)
+    if !is_within(opening, MOST_POSITION) {
+        return false;
+    }
+    if !is_within(position, MOST_POSITION) {
+        return false;
+    }
+    if MOST_VOLUME < v {
+        return false;
+    }
+    if !is_within(cost, v as u64 * LARGEST_PRICE as u64) {
+        return false;
+    }
+    is_within(cash, closed as u64 * MOST_POSTING)
 }
 
 fn accounts_hold(b: Book) -> bool

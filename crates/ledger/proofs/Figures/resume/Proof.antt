@@ -1,5 +1,4 @@
 -- `ledger::Figures::resume` meets its contract: its refusal, or no halt. Assumes nothing.
-use mathlib.Core.Path.{_∙_}
 use borrow.Author.Needs.{needs}
 use Rattle.ledger.specs.Effects.{figuresAfter, fixingOf}
 use Rattle.ledger.specs.declared.Call.the-variants as call
