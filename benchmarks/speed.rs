@@ -114,14 +114,13 @@ fn best(input: &Input) -> (f64, f64) {
 
 /// The best round of copies of a book, in nanoseconds each.
 fn copy() -> f64 {
-    let (from, mut to) = ([1; BOOK], [0; BOOK]);
+    let (from, mut to) = ([1_u8; BOOK], [0_u8; BOOK]);
     let mut best = Duration::MAX;
     let start = Instant::now();
     while start.elapsed() < ROUNDS {
         let round = processor_time();
         for _ in 0..TRADES / 10 {
-            to = *black_box(&from);
-            black_box(&mut to);
+            black_box(&mut to).copy_from_slice(black_box(&from));
         }
         best = best.min(processor_time() - round);
     }
