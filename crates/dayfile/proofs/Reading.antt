@@ -3,20 +3,22 @@
 --     cut-off     a record that ends past the file's end
 --     whole       a complete record
 --     right-length, wrong-length     a complete record of a known tag
---     minute-end  a minute end of its right length
+--     stood, stands-known     a record that stands is complete, and is read as its call
 -- Assumes nothing.
 use Prim.Native.Nat.{ℕ, _+_, _≤_, _<_}
-use mathlib.Core.Path.{_≡_, _∙_, ap}
+use mathlib.Core.Path.{_≡_, refl, _∙_, ap}
+use mathlib.Core.Bool.{true, _&&_}
 use mathlib.Core.List.{List}
 use native.Mathlib.Omega.{arith}
-use borrow.Author.Tests.{le-leb, lt-leb, lt-ltb, le-ltb, eq-eqb, ne-eqb}
+use borrow.Author.Tests.{leb-true, eqb-true, le-leb, lt-leb, lt-ltb, le-ltb, eq-eqb, ne-eqb}
+use lib.Dec.{leb, eqb}
 use lib.ListN.{length}
-use Rattle.ledger.specs.declared.Call.the-variants as call
+use Rattle.funding.proofs.Tests.{both-true}
 use Rattle.dayfile.specs.declared.Tag.{Tag}
 use Rattle.dayfile.specs.declared.Tag.the-variants as tag
 use Rattle.dayfile.specs.declared.Tagged.the-variants as tagged
 use Rattle.dayfile.specs.declared.Read.the-variants as read
-use Rattle.dayfile.specs.Record.{byteAt, fourBytes, tagOf, bodyLength, callOf, bodyAt, statedLength, nextAt, complete, readAt}
+use Rattle.dayfile.specs.Record.{byteAt, tagOf, byteOf, standsAt, bodyLength, callOf, bodyAt, statedLength, nextAt, complete, readAt}
 
 module _ (file : List ℕ) (at : ℕ) where
   pub at-end : length file ≤ at → readAt file at ≡ read.End
@@ -39,9 +41,33 @@ module _ (file : List ℕ) (at : ℕ) where
       → complete file at (tagOf (byteAt file at)) ≡ read.WrongLength (nextAt file at)
   wrong-length t e h = simp (e, ne-eqb (statedLength file at) (bodyLength t) h)
 
-  pub minute-end : byteAt file at ≡ 3 → statedLength file at ≡ 4 → at + 7 ≤ length file
-      → readAt file at ≡ read.Known (at + 7) (call.MinuteEnd (fourBytes file (bodyAt at)))
+  -- a tag's byte is read as that tag
+  byte-read : (t : Tag) → tagOf (byteOf t) ≡ tagged.Known t
   unfolding tagOf
-  minute-end b s h =
-      whole (omega arith) ∙ right-length tag.MinuteEnd (simp b) s
-      ∙ ap (λ next. read.Known next (call.MinuteEnd (fourBytes file (bodyAt at)))) (omega arith)
+  byte-read tag.Trade = refl
+  byte-read tag.Quote = refl
+  byte-read tag.MinuteEnd = refl
+  byte-read tag.Halt = refl
+  byte-read tag.Resume = refl
+  byte-read tag.Fix = refl
+  byte-read tag.Close = refl
+
+  -- the three tests of a record that stands
+  tests : (t : Tag) → standsAt file at t ≡ true → (bodyAt at + bodyLength t ≤ length file) × (byteAt file at ≡ byteOf t) × (statedLength file at ≡ bodyLength t)
+  tests t h =
+      let fits = leb (bodyAt at + bodyLength t) (length file) in
+      let byte = eqb (byteAt file at) (byteOf t) in
+      let stated = eqb (statedLength file at) (bodyLength t) in
+      let k = both-true (fits && byte) stated h in
+      let j = both-true fits byte (k .0) in
+      (leb-true (bodyAt at + bodyLength t) (length file) (j .0), eqb-true (byteAt file at) (byteOf t) (j .1), eqb-true (statedLength file at) (bodyLength t) (k .1))
+
+  pub stood : (t : Tag) → standsAt file at t ≡ true → bodyAt at + bodyLength t ≤ length file
+  stood t h = tests t h .0
+
+  pub stands-known : (t : Tag) → standsAt file at t ≡ true → readAt file at ≡ read.Known (bodyAt at + bodyLength t) (callOf file t (bodyAt at))
+  stands-known t h =
+      let k = tests t h in
+      let stated = k .2 in
+      whole (omega (arith, k .0, stated)) ∙ right-length t (ap tagOf (k .1) ∙ byte-read t) stated
+      ∙ ap (λ n. read.Known (bodyAt at + n) (callOf file t (bodyAt at))) stated

@@ -1,7 +1,7 @@
 -- What stands at a place of a day file: the format of document 01, sentence by sentence.
 use Prim.Native.Nat.{ℕ, _+_, _*_}
 use mathlib.Core.List.{List}
-use mathlib.Core.Bool.{cond}
+use mathlib.Core.Bool.{Bool, cond, _&&_}
 use lib.ListN.{length, getD}
 use lib.Dec.{ltb, leb, eqb}
 use Rattle.ledger.specs.declared.Call.{Call}
@@ -97,3 +97,16 @@ readAt file at =
     cond (leb (length file) at) read.End
     (cond (ltb (length file) (nextAt file at)) read.CutOff
     (complete file at (tagOf (byteAt file at))))
+
+-- the byte of each known tag, and whether a complete record of a tag and of its length stands at a place
+abbrev pub byteOf : Tag → ℕ
+byteOf tag.Trade = 1
+byteOf tag.Quote = 2
+byteOf tag.MinuteEnd = 3
+byteOf tag.Halt = 4
+byteOf tag.Resume = 5
+byteOf tag.Fix = 6
+byteOf tag.Close = 7
+
+abbrev pub standsAt : List ℕ → ℕ → Tag → Bool
+standsAt file at t = leb (bodyAt at + bodyLength t) (length file) && eqb (byteAt file at) (byteOf t) && eqb (statedLength file at) (bodyLength t)

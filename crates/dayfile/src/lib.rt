@@ -3,15 +3,13 @@ ghost use mathlib.Core.Path.{_≡_};
 ghost use Prim.Native.Nat.{_+_, _≤_, _<_};
 ghost use lib.ListN.{length};
 ghost use Rattle.dayfile.specs.Record.{byteAt, twoBytes, fourBytes, tagOf, bodyLength, tradeAt, quoteAt, callOf};
-ghost use Rattle.dayfile.specs.Record.{statedLength, complete, readAt};
+ghost use Rattle.dayfile.specs.Record.{statedLength, complete, readAt, byteOf, standsAt};
 use ledger::Call;
 use ledger::Market;
 use ledger::Trade;
 
 // The bytes of a tag and a length.
-const HEAD: usize = 3;
-// The bytes of a minute end.
-const MINUTE_END: usize = 7;
+pub const HEAD: usize = 3;
 
 // The known tags.
 pub enum Tag {
@@ -47,7 +45,7 @@ fn two_bytes(file: &[u8], at: usize) -> usize
     high * 256 + low
 }
 
-fn four_bytes(file: &[u8], at: usize) -> u32
+pub fn four_bytes(file: &[u8], at: usize) -> u32
     requires { ⌜ at + 4 ≤ length (now file) ⌝ }
     ensures { λ r. ⌜ r ≡ fourBytes (now (file .entry)) at ⌝ }
 {
@@ -69,7 +67,7 @@ fn tag_of(byte: u8) -> Tagged
     }
 }
 
-fn body_length(tag: Tag) -> usize
+pub fn body_length(tag: Tag) -> usize
     ensures { λ r. ⌜ r ≡ bodyLength tag ⌝ }
 {
     match tag {
@@ -83,7 +81,7 @@ fn body_length(tag: Tag) -> usize
     }
 }
 
-fn trade_at(file: &[u8], body: usize) -> Trade
+pub fn trade_at(file: &[u8], body: usize) -> Trade
     requires { ⌜ body + 11 ≤ length (now file) ⌝ }
     ensures { λ r. ⌜ r ≡ tradeAt (now (file .entry)) body ⌝ }
 {
@@ -122,6 +120,38 @@ fn call_of(file: &[u8], tag: Tag, body: usize) -> Call
     }
 }
 
+// The byte of a tag.
+fn byte_of(tag: Tag) -> u8
+    ensures { λ r. ⌜ r ≡ byteOf tag ⌝ }
+{
+    match tag {
+        Tag::Trade => 1,
+        Tag::Quote => 2,
+        Tag::MinuteEnd => 3,
+        Tag::Halt => 4,
+        Tag::Resume => 5,
+        Tag::Fix => 6,
+        Tag::Close => 7,
+    }
+}
+
+// Whether a complete record of this tag and of its length stands at a place.
+pub fn stands(file: &[u8], at: usize, tag: Tag) -> bool
+    ensures { λ r. ⌜ r ≡ standsAt (now (file .entry)) at tag ⌝ }
+{
+    let length = body_length(tag);
+    if file.len() <= at {
+        return false;
+    }
+    if file.len() - at < HEAD + length {
+        return false;
+    }
+    if file[at] != byte_of(tag) {
+        return false;
+    }
+    two_bytes(file, at + 1) == length
+}
+
 // The record at `at`, of the stated length, which lies within the file.
 fn complete_record(file: &[u8], at: usize, stated: usize) -> Read
     requires { ⌜ (stated ≡ statedLength (now file) at) × (at + 3 + stated ≤ length (now file)) ⌝ }
@@ -149,14 +179,6 @@ pub fn read_record(file: &[u8], at: usize) -> Read
         return Read::End;
     }
     let rest = file.len() - at;
-    if MINUTE_END <= rest {
-        if (file[at] == 3) & (two_bytes(file, at + 1) == 4) {
-            return Read::Known(
-                at + MINUTE_END,
-                Call::MinuteEnd(four_bytes(file, at + HEAD)),
-            );
-        }
-    }
     if rest < HEAD {
         return Read::CutOff;
     }

@@ -50,13 +50,16 @@ pub fn is_ticked(p: u32) -> bool
     is_price(p) & (p % TICK == 0)
 }
 
-// The spread test. The difference is moved to the other side, so that any two numbers may come.
+// The spread test. Sides that cross, which any two numbers may, differ by nothing.
 pub fn within_spread(bid: u32, offer: u32, terms: Terms) -> bool
     ensures { λ r. ⌜ r ≡ withinSpread terms bid offer ⌝ }
 {
+    if offer <= bid {
+        return true;
+    }
     let b = bid as u64;
     let a = offer as u64;
-    20_000 * a <= (terms.spread as u64) * (a + b) + 20_000 * b
+    20_000 * (a - b) <= (terms.spread as u64) * (a + b)
 }
 
 // The futures price F of a minute.

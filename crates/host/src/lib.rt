@@ -7,14 +7,22 @@ ghost use lib.ListN.{length};
 ghost use Rattle.ledger.specs.Columns.{accounts};
 ghost use Rattle.ledger.specs.Inner.{bookOf, WithinLimits};
 ghost use Rattle.dayfile.specs.Calls.{callsOf};
+ghost use Rattle.host.specs.Running.{Ready, Running};
 ghost use Rattle.host.specs.Run.{ranOver, acceptedRecords, reportedPositions, reportedCash, FromBytes};
+use dayfile::HEAD;
 use dayfile::Read;
+use dayfile::Tag;
+use dayfile::body_length;
+use dayfile::four_bytes;
+use dayfile::stands;
+use dayfile::trade_at;
 use ledger::ACCOUNTS;
 use ledger::Book;
 use ledger::Figures;
 use ledger::product::Product;
 use ledger::report::fill;
 use ledger::step::step_on;
+use ledger::trading::trade_on;
 
 pub mod shown;
 
@@ -56,7 +64,78 @@ fn count(accepted: u64, code: u8) -> u64
     if code == 0 { accepted + 1 } else { accepted }
 }
 
-// Runs a book within its limits over the records of a file. The columns stay in place from record to record.
+// What a part of a run has come to: the records accepted, the place of the next one, and the figures.
+pub struct Reached {
+    pub accepted: u64,
+    pub at: usize,
+    pub figures: Figures,
+}
+
+// Plays the minute ends that follow one another from a place on. The columns, which they leave alone, are lent for the
+// contract: it is of the whole book.
+fn minute_ends(
+    from: Reached,
+    file: &[u8],
+    opening: &[i64; ACCOUNTS],
+    position: &[i64; ACCOUNTS],
+    cost: &[i64; ACCOUNTS],
+    volume: &[u32; ACCOUNTS],
+    cash: &[i64; ACCOUNTS],
+) -> Reached
+    requires { ⌜ Ready (now file) (bookOf (from .figures) (now opening) (now position) (now cost) (now volume) (now cash)) (from .accepted) (from .at) ⌝ }
+    ensures { λ r. ⌜ Running (now (file .entry)) (bookOf (from .figures) (now (opening .entry)) (now (position .entry)) (now (cost .entry)) (now (volume .entry)) (now (cash .entry))) (from .accepted) (from .at) (bookOf (r .figures) (now (opening .entry)) (now (position .entry)) (now (cost .entry)) (now (volume .entry)) (now (cash .entry))) (r .accepted) (r .at) ⌝ }
+{
+    let mut figures = from.figures;
+    let mut accepted = from.accepted;
+    let mut at = from.at;
+    while stands(file, at, Tag::MinuteEnd) {
+        let body = at + HEAD;
+        let outcome = figures.minute_end(four_bytes(file, body));
+        let after = outcome.figures;
+        figures = after;
+        accepted = count(accepted, outcome.code);
+        at = body + body_length(Tag::MinuteEnd);
+    }
+    Reached {
+        accepted,
+        at,
+        figures,
+    }
+}
+
+// Plays the trades that follow one another from a place on, on the three columns that they change.
+fn trades(
+    from: Reached,
+    file: &[u8],
+    opening: &[i64; ACCOUNTS],
+    position: &mut [i64; ACCOUNTS],
+    cost: &mut [i64; ACCOUNTS],
+    volume: &mut [u32; ACCOUNTS],
+    cash: &[i64; ACCOUNTS],
+) -> Reached
+    requires { ⌜ Ready (now file) (bookOf (from .figures) (now opening) (now position) (now cost) (now volume) (now cash)) (from .accepted) (from .at) ⌝ }
+    ensures { λ r. ⌜ Running (now (file .entry)) (bookOf (from .figures) (now (opening .entry)) (now (position .entry)) (now (cost .entry)) (now (volume .entry)) (now (cash .entry))) (from .accepted) (from .at) (bookOf (r .figures) (now (opening .entry)) (now (position .exit)) (now (cost .exit)) (now (volume .exit)) (now (cash .entry))) (r .accepted) (r .at) ⌝ }
+{
+    let mut figures = from.figures;
+    let mut accepted = from.accepted;
+    let mut at = from.at;
+    while stands(file, at, Tag::Trade) {
+        let body = at + HEAD;
+        let outcome = trade_on(figures, position, cost, volume, trade_at(file, body));
+        let after = outcome.figures;
+        figures = after;
+        accepted = count(accepted, outcome.code);
+        at = body + body_length(Tag::Trade);
+    }
+    Reached {
+        accepted,
+        at,
+        figures,
+    }
+}
+
+// Runs a book within its limits over the records of a file. The columns stay in place from record to record. Minute ends and
+// trades, which most records are, are played by loops of their own, in which the machine has few numbers to keep.
 fn run(book: Book, file: &[u8]) -> Ran
     requires { ⌜ WithinLimits accounts book ⌝ }
     ensures { λ r. ⌜ r ≡ ranOver book (callsOf (now (file .entry))) ⌝ }
@@ -70,6 +149,25 @@ fn run(book: Book, file: &[u8]) -> Ran
     let mut accepted: u64 = 0;
     let mut at: usize = 0;
     loop {
+        let began = Reached {
+            accepted,
+            at,
+            figures,
+        };
+        let ends = minute_ends(began, file, &opening, &position, &cost, &volume, &cash);
+        let traded = trades(
+            ends,
+            file,
+            &opening,
+            &mut position,
+            &mut cost,
+            &mut volume,
+            &cash,
+        );
+        let reached = traded.figures;
+        figures = reached;
+        accepted = traded.accepted;
+        at = traded.at;
         match dayfile::read_record(file, at) {
             Read::End => {
                 return ended(accepted, figures, opening, position, cost, volume, cash);

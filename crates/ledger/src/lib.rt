@@ -7,7 +7,7 @@ pub mod product;
 mod quoting;
 pub mod report;
 pub mod step;
-mod trading;
+pub mod trading;
 
 use funding::FinalMinute;
 use funding::Previous;

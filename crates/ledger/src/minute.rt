@@ -69,12 +69,16 @@ impl Figures {
         ensures { λ r. ⌜ r ≡ isValid (termsOn (self .closed)) (self .halted) (self .day .minute) index ⌝ }
     {
         let minute = self.day.minute;
-        let sampled = !self.halted & minute.is_two_sided() & (index != 0);
-        if sampled {
-            funding::within_spread(minute.bid, minute.offer, Product::terms())
-        } else {
-            false
+        if self.halted {
+            return false;
         }
+        if !minute.is_two_sided() {
+            return false;
+        }
+        if index == 0 {
+            return false;
+        }
+        funding::within_spread(minute.bid, minute.offer, Product::terms())
     }
 
     // The number of a minute end's refusal, 0 for none.
@@ -91,7 +95,7 @@ impl Figures {
     }
 
     // Figures within their limits are asked, so that the weighted sum fits.
-    pub(crate) fn minute_end(self, index: u32) -> Outcome
+    pub fn minute_end(self, index: u32) -> Outcome
         requires { ⌜ figuresHold self ≡ true ⌝ }
         ensures { λ r. ⌜ r ≡ outcome self (figuresRefusal accounts self (Call.MinuteEnd index)) (Call.MinuteEnd index) ⌝ }
     {

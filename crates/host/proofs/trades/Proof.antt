@@ -1,0 +1,125 @@
+-- `host::trades` meets its contract. The loop's invariant is `Running`; the measure is what is left of the file.
+-- Assumes nothing.
+use mathlib.Core.Path.{_≡_, sym, _∙_, ap}
+use mathlib.Core.Bool.{true, cond}
+use Prim.Native.Nat.{_-_, _+_, _≤_, _<_, _^_}
+use native.Mathlib.Omega.{arith}
+use lib.Dec.{eqb}
+use lib.ListN as lists
+use mir.Syntax.{w8}
+use mir.Val.{Fits}
+use borrow.Author.Needs.{needs}
+use Rattle.dayfile.proofs.Calls.{calls-at-known}
+use Rattle.dayfile.proofs.Reading.{stood, stands-known}
+use Rattle.dayfile.specs.declared.Tag.the-variants as tag
+use Rattle.dayfile.specs.Record.{tradeAt, standsAt}
+use Rattle.ledger.specs.declared.Answer.{Answer}
+use Rattle.ledger.specs.declared.Book.{Book}
+use Rattle.ledger.specs.declared.Call.{Call}
+use Rattle.ledger.specs.declared.Trade.{Trade}
+use Rattle.ledger.specs.declared.Call.the-variants as call
+use Rattle.ledger.specs.Columns.{accounts}
+use Rattle.ledger.specs.Inner.{bookOf}
+use Rattle.ledger.specs.Step.{step}
+use Rattle.ledger.proofs.Lent.{tradable, step-within}
+use Rattle.host.specs.Running.{Running}
+use Rattle.host.proofs.Running.{begins, steps, equal}
+use Rattle.host.proofs.trades.Statement.{statement}
+use Rattle.host.proofs.trades.Tie as tie
+
+abbrev Inv-loop : tie.InvT-loop
+Inv-loop file opening position₀ cost₀ volume₀ cash figures₀ accepted₀ at₀ position cost volume figures accepted at =
+    Running file (bookOf figures₀ opening position₀ cost₀ volume₀ cash) accepted₀ at₀ (bookOf figures opening position cost volume cash) accepted at
+
+abbrev μ-loop : tie.MeasureT-loop
+μ-loop file opening position₀ cost₀ volume₀ cash figures₀ accepted₀ at₀ position cost volume figures accepted at = lists.length file - at
+
+abbrev start : tie.At-loop Inv-loop μ-loop → tie.Start Inv-loop μ-loop
+start c = c .before .before .before
+
+-- the book and the call at the place
+abbrev bookAt : tie.At-loop Inv-loop μ-loop → Book
+bookAt c = let a = start c .args in bookOf (c .loop .figures) (a .opening .now) (c .loop .position) (c .loop .cost) (c .loop .volume) (a .cash .now)
+
+abbrev callAt : tie.At-loop Inv-loop μ-loop → Call
+callAt c = call.Trade (tradeAt (start c .args .file .now) (c .loop .at + 3))
+
+loop-holds : tie.Need-loop-holds Inv-loop μ-loop
+loop-holds c = begins (c .before .before .pre)
+
+stands-requires : tie.Need-stands-requires Inv-loop μ-loop
+stands-requires c κs = search needs
+
+-- a trade stands at the place
+standing : (c : tie.Then1 Inv-loop μ-loop) → let l = c .before .before in standsAt (start l .args .file .now) (l .loop .at) tag.Trade ≡ true
+standing c = sym (c .before .stands .ensures) ∙ c .if1 .taken
+
+-- and ends within the file, whose length is a machine's number
+inside : (c : tie.Then1 Inv-loop μ-loop) → let l = c .before .before in (l .loop .at + 3 + 11 ≤ lists.length (start l .args .file .now)) × (lists.length (start l .args .file .now) < 2 ^ 63)
+inside c = let l = c .before .before in (omega (arith, stood (start l .args .file .now) (l .loop .at) tag.Trade (standing c)), omega (arith, start l .good))
+
+add-body : tie.Need-add-body Inv-loop μ-loop
+add-body c = let h = inside c in record { fits = omega (arith, h .0, h .1) }
+
+trade-at-requires : tie.Need-trade-at-requires Inv-loop μ-loop
+trade-at-requires c κs = omega (arith, inside (c .before .before .before) .0)
+
+trade-on-requires : tie.Need-trade-on-requires Inv-loop μ-loop
+trade-on-requires c κs =
+    let l = c .before .before .before .before .before .before in
+    let t = c .trade-at .result in
+    let buyer : Fits w8 (t .buyer) = search needs in
+    let seller : Fits w8 (t .seller) = search needs in
+    tradable (bookAt l) (l .loop .inv .ready .within) t (buyer .fits) (seller .fits)
+
+count-requires : tie.Need-count-requires Inv-loop μ-loop
+count-requires c κs =
+    let t = c .before .before .before .before .before .before in
+    omega (arith, t .before .before .loop .inv .ready .fewer, inside t .0, inside t .1)
+
+body-length-requires : tie.Need-body-length-requires Inv-loop μ-loop
+body-length-requires c κs = search needs
+
+add-at : tie.Need-add-at Inv-loop μ-loop
+add-at c = let h = inside (c .before .before .before .before .before .before .before .before) in record { fits = omega (arith, h .0, h .1, c .body-length .ensures) }
+
+loop-less : tie.Need-loop-less Inv-loop μ-loop
+loop-less c = omega (arith, inside (c .before .before .before .before .before .before .before .before) .0, c .body-length .ensures)
+
+loop-again : tie.Need-loop-again Inv-loop μ-loop
+loop-again c =
+    let m = c .before .before .before in
+    let t = m .before .before .before .before .before in
+    let l = t .before .before in
+    let file = start l .args .file .now in
+    let at = l .loop .at in
+    let k = call.Trade (m .before .trade-at .result) in
+    let a =
+    m .trade-on .ensures (bookAt l .opening) (bookAt l .cash)
+    ∙ step-within accounts (bookAt l) k (l .loop .inv .ready .within)
+    ∙ ap (λ (t : Trade). step accounts (bookAt l) (call.Trade t)) (m .before .trade-at .ensures) in
+    let calls = calls-at-known file at (callAt l) (at + 3 + 11) (stands-known file at tag.Trade (standing t)) in
+    rw (c .body-length .ensures)
+    (equal (ap (λ (x : Answer). x .book) a) (c .before .count .ensures ∙ ap (λ (x : Answer). l .loop .accepted + cond (eqb (x .code) 0) 1 0) a)
+    (steps (l .loop .inv) (callAt l) (at + 3 + 11) (omega arith) (inside t .0) calls))
+
+returns : tie.Need-returns Inv-loop μ-loop
+returns c = c .before .before .loop .inv
+
+pub trades-spec : {M : Type 1} → statement M
+trades-spec =
+    tie.close
+    (tie.spec
+    Inv-loop
+    μ-loop
+    loop-holds
+    stands-requires
+    add-body
+    trade-at-requires
+    trade-on-requires
+    count-requires
+    body-length-requires
+    add-at
+    loop-less
+    loop-again
+    returns)

@@ -1,0 +1,23 @@
+-- What a part of a run over a file keeps, and so the whole.
+use mathlib.Core.Path.{_≡_}
+use mathlib.Core.List.{List}
+use Prim.Native.Nat.{ℕ, _+_, _≤_}
+use lib.ListN.{length}
+use Rattle.ledger.specs.declared.Book.{Book}
+use Rattle.ledger.specs.Columns.{accounts}
+use Rattle.ledger.specs.Step.{run, accepted}
+use Rattle.ledger.specs.Inner.{WithinLimits}
+use Rattle.dayfile.specs.Calls.{callsFrom}
+
+-- a book within its limits, at a place of a file and with this many accepted records
+pub record Ready (file : List ℕ) (b : Book) (count at : ℕ) : Type 0 where
+  pub within : WithinLimits accounts b
+  pub inside : at ≤ length file
+  pub fewer : count ≤ at
+
+-- what began at a place with one book and count has come to a later place with another: what follows leads to the same end
+pub record Running (file : List ℕ) (start : Book) (before from : ℕ) (b : Book) (count at : ℕ) : Type 0 where
+  pub ready : Ready file b count at
+  pub onward : from ≤ at
+  pub book-is : run accounts start (callsFrom file from) ≡ run accounts b (callsFrom file at)
+  pub count-is : before + length (accepted accounts start (callsFrom file from)) ≡ count + length (accepted accounts b (callsFrom file at))
