@@ -164,10 +164,14 @@ fn run(book: Book, file: &[u8]) -> Ran
             &mut volume,
             &cash,
         );
+        let moved = at < traded.at;
         let reached = traded.figures;
         figures = reached;
         accepted = traded.accepted;
         at = traded.at;
+        if moved {
+            continue;
+        }
         match dayfile::read_record(file, at) {
             Read::End => {
                 return ended(accepted, figures, opening, position, cost, volume, cash);

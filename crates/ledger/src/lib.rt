@@ -82,12 +82,12 @@ pub struct Day {
 
 // All that a book holds beside its account columns.
 pub struct Figures {
+    pub size: u32,
     // closed days
     pub closed: u32,
-    pub day: Day,
-    pub size: u32,
     pub halted: bool,
     pub previous: Previous,
+    pub day: Day,
 }
 
 // A contract's book: its figures and, for each account, the opening and the present position, the cost and the contracts

@@ -5,6 +5,7 @@ use Prim.Native.Nat.{_-_, _+_, _≤_}
 use native.Mathlib.Omega.{arith}
 use lib.Dec.{eqb}
 use lib.ListN as lists
+use borrow.Author.Tests.{ltb-true}
 use borrow.Author.Needs.{needs}
 use Rattle.dayfile.proofs.Calls.{calls-at-end, calls-at-cut-off, calls-at-known, calls-at-wrong-length, calls-at-unknown}
 use Rattle.dayfile.proofs.Forward.{forward-to}
@@ -44,6 +45,15 @@ came : (c : tie.After-trades Inv-loop μ-loop) → let l = turn c .loop in let t
     Running (start c .args .file .now) (start c .args .book) 0 0 (bookOf (t .result .figures) (l .opening) (t .last .1 .1 .1 .0) (t .last .1 .1 .1 .1 .0) (t .last .1 .1 .1 .1 .1 .0) (l .cash)) (t .result .accepted) (t .result .at)
 came c = joined (turn c .loop .inv) (joined (c .before .before .before .before .before .before .minute-ends .ensures) (c .trades .ensures))
 
+-- where a minute end or a trade was played, the place is a later one
+loop-less : tie.Need-loop-less Inv-loop μ-loop
+loop-less c =
+    let k = c .before .before .before in
+    omega (arith, ltb-true (turn k .loop .at) (k .trades .result .at) (c .if1 .taken), came k .ready .inside)
+
+loop-again : tie.Need-loop-again Inv-loop μ-loop
+loop-again c = came (c .before .before .before)
+
 read-record-requires : tie.Need-read-record-requires Inv-loop μ-loop
 read-record-requires c κs = search needs
 
@@ -56,7 +66,7 @@ ended-requires c κs = search needs
 returns : tie.Need-returns Inv-loop μ-loop
 returns c =
     let r = c .before .before .before in
-    let k = r .before .before in
+    let k = r .before .before .before .before in
     c .ended .ensures ∙ ends (came k) (calls-at-end (start k .args .file .now) (k .trades .result .at) (sym (r .read-record .ensures) ∙ c .before .enum-told .given .1))
 
 enum-told-2 : tie.Need-enum-told-2 Inv-loop μ-loop
@@ -68,35 +78,35 @@ ended-requires-2 c κs = search needs
 returns-2 : tie.Need-returns-2 Inv-loop μ-loop
 returns-2 c =
     let r = c .before .before .before in
-    let k = r .before .before in
+    let k = r .before .before .before .before in
     c .ended2 .ensures ∙ ends (came k) (calls-at-cut-off (start k .args .file .now) (k .trades .result .at) (sym (r .read-record .ensures) ∙ c .before .enum-told2 .given .1))
 
 enum-known-next : tie.Need-enum-known-next Inv-loop μ-loop
 enum-known-next c = search needs
 
 step-on-requires : tie.Need-step-on-requires Inv-loop μ-loop
-step-on-requires c κs = came (c .before .before .before .before .before .before .before .before .before .before) .ready .within
+step-on-requires c κs = came (c .before .before .before .before .before .before .before .before .before .before .before .before) .ready .within
 
 count-requires : tie.Need-count-requires Inv-loop μ-loop
 count-requires c κs =
-    let k = c .before .before .before .before .before .before .before .before .before .before .before .before in
+    let k = c .before .before .before .before .before .before .before .before .before .before .before .before .before .before in
     omega (arith, came k .ready .fewer, came k .ready .inside, start k .good)
 
 -- the place that the loop reads at is not before the one that it began at
 onward : (k : tie.After-trades Inv-loop μ-loop) → turn k .loop .at ≤ k .trades .result .at
 onward k = omega (arith, k .before .before .before .before .before .before .minute-ends .ensures .onward, k .trades .ensures .onward)
 
-loop-less : tie.Need-loop-less Inv-loop μ-loop
-loop-less c =
+loop-less-2 : tie.Need-loop-less-2 Inv-loop μ-loop
+loop-less-2 c =
     let r = c .before .before .before .before .before .before .before .before .before .before .before in
-    let k = r .before .before in
+    let k = r .before .before .before .before in
     let n = c .before .before .before .before .before .before .before .before .before .next in
     omega (arith, onward k, forward-to (start k .args .file .now) (k .trades .result .at) (read.Known (n .given .0 .0) (n .given .0 .1 .0)) (sym (r .read-record .ensures) ∙ n .given .1))
 
-loop-again : tie.Need-loop-again Inv-loop μ-loop
-loop-again c =
+loop-again-2 : tie.Need-loop-again-2 Inv-loop μ-loop
+loop-again-2 c =
     let r = c .before .before .before .before .before .before .before .before .before .before .before in
-    let k = r .before .before in
+    let k = r .before .before .before .before in
     let file = start k .args .file .now in
     let at = k .trades .result .at in
     let n = c .before .before .before .before .before .before .before .before .before .next in
@@ -109,17 +119,17 @@ loop-again c =
 enum-known-next-2 : tie.Need-enum-known-next-2 Inv-loop μ-loop
 enum-known-next-2 c = search needs
 
-loop-less-2 : tie.Need-loop-less-2 Inv-loop μ-loop
-loop-less-2 c =
+loop-less-3 : tie.Need-loop-less-3 Inv-loop μ-loop
+loop-less-3 c =
     let r = c .before .before .before in
-    let k = r .before .before in
+    let k = r .before .before .before .before in
     let next = c .before .next2 .given .0 .0 in
     omega (arith, onward k, forward-to (start k .args .file .now) (k .trades .result .at) (read.WrongLength next) (sym (r .read-record .ensures) ∙ c .before .next2 .given .1))
 
-loop-again-2 : tie.Need-loop-again-2 Inv-loop μ-loop
-loop-again-2 c =
+loop-again-3 : tie.Need-loop-again-3 Inv-loop μ-loop
+loop-again-3 c =
     let r = c .before .before .before in
-    let k = r .before .before in
+    let k = r .before .before .before .before in
     let file = start k .args .file .now in
     let at = k .trades .result .at in
     let next = c .before .next2 .given .0 .0 in
@@ -130,17 +140,17 @@ loop-again-2 c =
 enum-known-next-3 : tie.Need-enum-known-next-3 Inv-loop μ-loop
 enum-known-next-3 c = search needs
 
-loop-less-3 : tie.Need-loop-less-3 Inv-loop μ-loop
-loop-less-3 c =
+loop-less-4 : tie.Need-loop-less-4 Inv-loop μ-loop
+loop-less-4 c =
     let r = c .before .before .before in
-    let k = r .before .before in
+    let k = r .before .before .before .before in
     let next = c .before .next3 .given .0 .0 in
     omega (arith, onward k, forward-to (start k .args .file .now) (k .trades .result .at) (read.Unknown next) (sym (r .read-record .ensures) ∙ c .before .next3 .given .1))
 
-loop-again-3 : tie.Need-loop-again-3 Inv-loop μ-loop
-loop-again-3 c =
+loop-again-4 : tie.Need-loop-again-4 Inv-loop μ-loop
+loop-again-4 c =
     let r = c .before .before .before in
-    let k = r .before .before in
+    let k = r .before .before .before .before in
     let file = start k .args .file .now in
     let at = k .trades .result .at in
     let next = c .before .next3 .given .0 .0 in
@@ -157,6 +167,8 @@ run-spec =
     loop-holds
     minute-ends-requires
     trades-requires
+    loop-less
+    loop-again
     read-record-requires
     enum-told
     ended-requires
@@ -167,11 +179,11 @@ run-spec =
     enum-known-next
     step-on-requires
     count-requires
-    loop-less
-    loop-again
-    enum-known-next-2
     loop-less-2
     loop-again-2
-    enum-known-next-3
+    enum-known-next-2
     loop-less-3
-    loop-again-3)
+    loop-again-3
+    enum-known-next-3
+    loop-less-4
+    loop-again-4)
