@@ -27,7 +27,8 @@ pub enum Tagged {
     Unknown,
 }
 
-// What stands at a place of a file. The usize is the place of the next record.
+// What stands at a place of a file. The usize is the place of the next record. It comes first, so that it lies at one offset in
+// every variant and no call is put together over it.
 pub enum Read {
     End,
     CutOff,
