@@ -1,6 +1,6 @@
 -- How a run over a file goes on.
---     begins, ends, skips, steps     at the start, where no call is left, past a record that is no call, and past a call
---     equal, joined                  of a book and a count that are equal, and one part after another
+--     begins, ends, skips, stepped     at the start, where no call is left, past a record that is no call, and past a call
+--     joined                           one part after another
 -- Assumes nothing.
 use mathlib.Core.Path.{_≡_, refl, sym, _∙_, ap, ap₂}
 use mathlib.Core.Bool.{Bool, true, false, cond}
@@ -11,6 +11,7 @@ use lib.Dec.{eqb}
 use lib.ListN.{length}
 use Rattle.ledger.specs.declared.Call.{Call}
 use Rattle.ledger.specs.declared.Book.{Book}
+use Rattle.ledger.specs.declared.Answer.{Answer}
 use Rattle.ledger.specs.Columns.{accounts}
 use Rattle.ledger.specs.Step.{step, run, keepIf, accepted, isAccepted}
 use Rattle.ledger.proofs.Keeping.{step-kept}
@@ -21,7 +22,7 @@ use Rattle.host.specs.Run.{ranOver}
 pub begins : {file : List ℕ} {b : Book} {count at : ℕ} → Ready file b count at → Running file b count at b count at
 begins h = record { ready = h; onward = omega arith; book-is = refl; count-is = refl }
 
-pub equal : {file : List ℕ} {start b b′ : Book} {before from count count′ at : ℕ} → b′ ≡ b → count′ ≡ count → Running file start before from b count at → Running file start before from b′ count′ at
+equal : {file : List ℕ} {start b b′ : Book} {before from count count′ at : ℕ} → b′ ≡ b → count′ ≡ count → Running file start before from b count at → Running file start before from b′ count′ at
 equal {file} {start} {before = before} {from = from} {at = at} e f r = rw (e, f) r
 
 pub joined : {file : List ℕ} {start b b′ : Book} {before from count at count′ at′ : ℕ} → Running file start before from b count at → Running file b count at b′ count′ at′ → Running file start before from b′ count′ at′
@@ -44,7 +45,7 @@ module _ {file : List ℕ} {start b : Book} {before from count at : ℕ} (r : Ru
         count-is = r .count-is ∙ ap (λ (cs : List Call). count + length (accepted accounts b cs)) e;
       }
 
-  pub steps : (c : Call) (next : ℕ) → at < next → next ≤ length file → callsFrom file at ≡ c ∷ callsFrom file next → Running file start before from (step accounts b c .book) (count + cond (eqb (step accounts b c .code) 0) 1 0) next
+  steps : (c : Call) (next : ℕ) → at < next → next ≤ length file → callsFrom file at ≡ c ∷ callsFrom file next → Running file start before from (step accounts b c .book) (count + cond (eqb (step accounts b c .code) 0) 1 0) next
   unfolding run accepted step
   steps c next near far e =
       let k = step-kept accounts b c (r .ready .within .shaped) (r .ready .within .within) in
@@ -62,3 +63,8 @@ module _ {file : List ℕ} {start b : Book} {before from count at : ℕ} (r : Ru
       one-more : (t : Bool) (cs : List Call) → count + length (keepIf t c cs) ≡ count + cond t 1 0 + length cs
       one-more true cs = omega arith
       one-more false cs = omega arith
+
+  pub stepped : (c : Call) (next : ℕ) → at < next → next ≤ length file → callsFrom file at ≡ c ∷ callsFrom file next
+      → {x : Answer} {n : ℕ} → x ≡ step accounts b c → n ≡ count + cond (eqb (x .code) 0) 1 0 → Running file start before from (x .book) n next
+  stepped c next near far e {x} {n} a h =
+      equal (ap (λ (x : Answer). x .book) a) (h ∙ ap (λ (x : Answer). count + cond (eqb (x .code) 0) 1 0) a) (steps c next near far e)

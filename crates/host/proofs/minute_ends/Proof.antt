@@ -1,17 +1,15 @@
 -- `host::minute_ends` meets its contract. The loop's invariant is `Running`; the measure is what is left of the file.
 -- Assumes nothing.
 use mathlib.Core.Path.{_≡_, refl, sym, _∙_, ap}
-use mathlib.Core.Bool.{true, cond}
+use mathlib.Core.Bool.{true}
 use Prim.Native.Nat.{_-_, _+_, _≤_, _<_, _^_}
 use native.Mathlib.Omega.{arith}
-use lib.Dec.{eqb}
 use lib.ListN as lists
 use borrow.Author.Needs.{needs}
 use Rattle.dayfile.proofs.Calls.{calls-at-known}
 use Rattle.dayfile.proofs.Reading.{stood, stands-known}
 use Rattle.dayfile.specs.declared.Tag.the-variants as tag
 use Rattle.dayfile.specs.Record.{fourBytes, standsAt}
-use Rattle.ledger.specs.declared.Answer.{Answer}
 use Rattle.ledger.specs.declared.Book.{Book}
 use Rattle.ledger.specs.declared.Call.{Call}
 use Rattle.ledger.specs.declared.Call.the-variants as call
@@ -22,7 +20,7 @@ use Rattle.ledger.specs.Step.{step}
 use Rattle.ledger.proofs.Held.{held, figures-hold}
 use Rattle.ledger.proofs.Lent.{step-within, on-figures}
 use Rattle.host.specs.Running.{Running}
-use Rattle.host.proofs.Running.{begins, steps, equal}
+use Rattle.host.proofs.Running.{begins, stepped}
 use Rattle.host.proofs.minute_ends.Statement.{statement}
 use Rattle.host.proofs.minute_ends.Tie as tie
 
@@ -99,11 +97,8 @@ loop-again c =
     let l = t .before .before in
     let file = start l .args .file .now in
     let at = l .loop .at in
-    let a = answered m in
     let calls = calls-at-known file at (callAt l) (at + 3 + 4) (stands-known file at tag.MinuteEnd (standing t)) in
-    rw (c .body-length .ensures)
-    (equal (ap (λ (x : Answer). x .book) a) (c .before .count .ensures ∙ ap (λ (x : Answer). l .loop .accepted + cond (eqb (x .code) 0) 1 0) a)
-    (steps (l .loop .inv) (callAt l) (at + 3 + 4) (omega arith) (inside t .0) calls))
+    rw (c .body-length .ensures) (stepped (l .loop .inv) (callAt l) (at + 3 + 4) (omega arith) (inside t .0) calls (answered m) (c .before .count .ensures))
 
 returns : tie.Need-returns Inv-loop μ-loop
 returns c = c .before .before .loop .inv

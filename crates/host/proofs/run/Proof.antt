@@ -1,9 +1,7 @@
 -- `host::run` meets its contract. The loop's invariant is `Running`; the measure is what is left of the file. Assumes nothing.
-use mathlib.Core.Path.{sym, _∙_, ap}
-use mathlib.Core.Bool.{cond}
-use Prim.Native.Nat.{_-_, _+_, _≤_}
+use mathlib.Core.Path.{sym, _∙_}
+use Prim.Native.Nat.{_-_, _≤_}
 use native.Mathlib.Omega.{arith}
-use lib.Dec.{eqb}
 use lib.ListN as lists
 use borrow.Author.Tests.{ltb-true}
 use borrow.Author.Needs.{needs}
@@ -11,9 +9,8 @@ use Rattle.dayfile.proofs.Calls.{calls-at-end, calls-at-cut-off, calls-at-known
 use Rattle.dayfile.proofs.Forward.{forward-to}
 use Rattle.dayfile.specs.declared.Read.the-variants as read
 use Rattle.host.specs.Running.{Running}
-use Rattle.host.proofs.Running.{begins, ends, skips, steps, equal, joined}
+use Rattle.host.proofs.Running.{begins, ends, skips, stepped, joined}
 use Rattle.ledger.specs.Inner.{bookOf}
-use Rattle.ledger.specs.declared.Answer.{Answer}
 use Rattle.host.proofs.run.Statement.{statement}
 use Rattle.host.proofs.run.Tie as tie
 
@@ -112,9 +109,7 @@ loop-again-2 c =
     let n = c .before .before .before .before .before .before .before .before .before .next in
     let e = sym (r .read-record .ensures) ∙ n .given .1 in
     let on = forward-to file at (read.Known (n .given .0 .0) (n .given .0 .1 .0)) e in
-    let a = c .before .before .step-on .ensures in
-    equal (ap (λ (x : Answer). x .book) a) (c .count .ensures ∙ ap (λ (x : Answer). k .trades .result .accepted + cond (eqb (x .code) 0) 1 0) a)
-    (steps (came k) (n .given .0 .1 .0) (n .given .0 .0) (omega (arith, on .0)) (on .1) (calls-at-known file at (n .given .0 .1 .0) (n .given .0 .0) e))
+    stepped (came k) (n .given .0 .1 .0) (n .given .0 .0) (omega (arith, on .0)) (on .1) (calls-at-known file at (n .given .0 .1 .0) (n .given .0 .0) e) (c .before .before .step-on .ensures) (c .count .ensures)
 
 enum-known-next-2 : tie.Need-enum-known-next-2 Inv-loop μ-loop
 enum-known-next-2 c = search needs

@@ -1,10 +1,9 @@
 -- `host::trades` meets its contract. The loop's invariant is `Running`; the measure is what is left of the file.
 -- Assumes nothing.
 use mathlib.Core.Path.{_≡_, sym, _∙_, ap}
-use mathlib.Core.Bool.{true, cond}
+use mathlib.Core.Bool.{true}
 use Prim.Native.Nat.{_-_, _+_, _≤_, _<_, _^_}
 use native.Mathlib.Omega.{arith}
-use lib.Dec.{eqb}
 use lib.ListN as lists
 use mir.Syntax.{w8}
 use mir.Val.{Fits}
@@ -13,7 +12,6 @@ use Rattle.dayfile.proofs.Calls.{calls-at-known}
 use Rattle.dayfile.proofs.Reading.{stood, stands-known}
 use Rattle.dayfile.specs.declared.Tag.the-variants as tag
 use Rattle.dayfile.specs.Record.{tradeAt, standsAt}
-use Rattle.ledger.specs.declared.Answer.{Answer}
 use Rattle.ledger.specs.declared.Book.{Book}
 use Rattle.ledger.specs.declared.Call.{Call}
 use Rattle.ledger.specs.declared.Trade.{Trade}
@@ -23,7 +21,7 @@ use Rattle.ledger.specs.Inner.{bookOf}
 use Rattle.ledger.specs.Step.{step}
 use Rattle.ledger.proofs.Lent.{tradable, step-within}
 use Rattle.host.specs.Running.{Running}
-use Rattle.host.proofs.Running.{begins, steps, equal}
+use Rattle.host.proofs.Running.{begins, stepped}
 use Rattle.host.proofs.trades.Statement.{statement}
 use Rattle.host.proofs.trades.Tie as tie
 
@@ -99,9 +97,7 @@ loop-again c =
     ∙ step-within accounts (bookAt l) k (l .loop .inv .ready .within)
     ∙ ap (λ (t : Trade). step accounts (bookAt l) (call.Trade t)) (m .before .trade-at .ensures) in
     let calls = calls-at-known file at (callAt l) (at + 3 + 11) (stands-known file at tag.Trade (standing t)) in
-    rw (c .body-length .ensures)
-    (equal (ap (λ (x : Answer). x .book) a) (c .before .count .ensures ∙ ap (λ (x : Answer). l .loop .accepted + cond (eqb (x .code) 0) 1 0) a)
-    (steps (l .loop .inv) (callAt l) (at + 3 + 11) (omega arith) (inside t .0) calls))
+    rw (c .body-length .ensures) (stepped (l .loop .inv) (callAt l) (at + 3 + 11) (omega arith) (inside t .0) calls a (c .before .count .ensures))
 
 returns : tie.Need-returns Inv-loop μ-loop
 returns c = c .before .before .loop .inv
