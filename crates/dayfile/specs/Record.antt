@@ -98,7 +98,8 @@ readAt file at =
     (cond (ltb (length file) (nextAt file at)) read.CutOff
     (complete file at (tagOf (byteAt file at))))
 
--- the byte of each known tag, and whether a complete record of a tag and of its length stands at a place
+-- the byte that `tagOf` reads as each tag, and whether a complete record of that tag and of its length stands at a place: `readAt`
+-- then gives its call (both proved in proofs/Reading.antt)
 abbrev pub byteOf : Tag → ℕ
 byteOf tag.Trade = 1
 byteOf tag.Quote = 2

@@ -1,4 +1,5 @@
--- What a part of a run over a file keeps, and so the whole.
+-- What the private loops of a run promise each other: a part of the run that may stop anywhere and leads to the same end. What a
+-- whole run promises is in Run.antt; a reader of that can skip this file.
 use mathlib.Core.Path.{_≡_}
 use mathlib.Core.List.{List}
 use Prim.Native.Nat.{ℕ, _+_, _≤_}

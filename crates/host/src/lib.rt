@@ -65,10 +65,10 @@ fn count(accepted: u64, code: u8) -> u64
 }
 
 // What a part of a run has come to: the records accepted, the place of the next one, and the figures.
-pub struct Reached {
-    pub accepted: u64,
-    pub at: usize,
-    pub figures: Figures,
+struct Reached {
+    accepted: u64,
+    at: usize,
+    figures: Figures,
 }
 
 // Plays the minute ends that follow one another from a place on. The columns, which they leave alone, are lent for the
