@@ -136,15 +136,17 @@ fn byte_of(tag: Tag) -> u8
     }
 }
 
-// Whether a complete record of this tag and of its length stands at a place.
+// Whether a complete record of this tag and of its length stands at a place. The place is compared with the last one at which it
+// could start, which is the same at every record of a file.
 pub fn stands(file: &[u8], at: usize, tag: Tag) -> bool
     ensures { λ r. ⌜ r ≡ standsAt (now (file .entry)) at tag ⌝ }
 {
     let length = body_length(tag);
-    if file.len() <= at {
+    let bytes = HEAD + length;
+    if file.len() < bytes {
         return false;
     }
-    if file.len() - at < HEAD + length {
+    if file.len() - bytes < at {
         return false;
     }
     if file[at] != byte_of(tag) {

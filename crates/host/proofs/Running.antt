@@ -1,6 +1,7 @@
 -- How a run over a file goes on.
---     begins, ends, skips, stepped     at the start, where no call is left, past a record that is no call, and past a call
---     joined                           one part after another
+--     begins, ends               at the start, and where no call is left
+--     skips, skips-all, stepped     past a record that is no call, past all that is left where no call is, and past a call
+--     joined                     one part after another
 -- Assumes nothing.
 use mathlib.Core.Path.{_≡_, refl, sym, _∙_, ap, ap₂}
 use mathlib.Core.Bool.{Bool, true, false, cond}
@@ -16,6 +17,8 @@ use Rattle.ledger.specs.Columns.{accounts}
 use Rattle.ledger.specs.Step.{step, run, keepIf, accepted, isAccepted}
 use Rattle.ledger.proofs.Keeping.{step-kept}
 use Rattle.dayfile.specs.Calls.{callsFrom, callsOf}
+use Rattle.dayfile.proofs.Reading.{at-end}
+use Rattle.dayfile.proofs.Calls.{calls-at-end}
 use Rattle.host.specs.Running.{Ready, Running}
 use Rattle.host.specs.Run.{ranOver}
 
@@ -44,6 +47,9 @@ module _ {file : List ℕ} {start b : Book} {before from count at : ℕ} (r : Ru
         book-is = r .book-is ∙ ap (run accounts b) e;
         count-is = r .count-is ∙ ap (λ (cs : List Call). count + length (accepted accounts b cs)) e;
       }
+
+  pub skips-all : callsFrom file at ≡ [] → Running file start before from b count (length file)
+  skips-all e = skips (length file) (r .ready .inside) (omega arith) (e ∙ sym (calls-at-end file (length file) (at-end file (length file) (omega arith))))
 
   steps : (c : Call) (next : ℕ) → at < next → next ≤ length file → callsFrom file at ≡ c ∷ callsFrom file next → Running file start before from (step accounts b c .book) (count + cond (eqb (step accounts b c .code) 0) 1 0) next
   unfolding run accepted step

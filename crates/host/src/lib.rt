@@ -32,30 +32,6 @@ pub struct Ran {
     pub book: Book,
 }
 
-fn ended(
-    accepted: u64,
-    figures: Figures,
-    opening: [i64; ACCOUNTS],
-    position: [i64; ACCOUNTS],
-    cost: [i64; ACCOUNTS],
-    volume: [u32; ACCOUNTS],
-    cash: [i64; ACCOUNTS],
-) -> Ran
-    ensures { λ r. ⌜ r ≡ record { accepted = accepted; book = bookOf figures opening position cost volume cash } ⌝ }
-{
-    Ran {
-        accepted,
-        book: Book {
-            figures,
-            opening,
-            position,
-            cost,
-            volume,
-            cash,
-        },
-    }
-}
-
 // A record more where it was accepted.
 fn count(accepted: u64, code: u8) -> u64
     requires { ⌜ accepted < 2 ^ 63 ⌝ }
@@ -69,6 +45,30 @@ struct Reached {
     accepted: u64,
     at: usize,
     figures: Figures,
+}
+
+fn ended(
+    reached: Reached,
+    opening: [i64; ACCOUNTS],
+    position: [i64; ACCOUNTS],
+    cost: [i64; ACCOUNTS],
+    volume: [u32; ACCOUNTS],
+    cash: [i64; ACCOUNTS],
+) -> Ran
+    ensures { λ r. ⌜ r ≡ record { accepted = reached .accepted; book = bookOf (reached .figures) opening position cost volume cash } ⌝ }
+{
+    let figures = reached.figures;
+    Ran {
+        accepted: reached.accepted,
+        book: Book {
+            figures,
+            opening,
+            position,
+            cost,
+            volume,
+            cash,
+        },
+    }
 }
 
 // Plays the minute ends that follow one another from a place on. The columns, which they leave alone, are lent for the
@@ -134,6 +134,45 @@ fn trades(
     }
 }
 
+// Plays or passes over the record at a place, whatever it is. A record that is cut off ends the run: nothing is left of the file.
+fn any_record(
+    from: Reached,
+    file: &[u8],
+    opening: &mut [i64; ACCOUNTS],
+    position: &mut [i64; ACCOUNTS],
+    cost: &mut [i64; ACCOUNTS],
+    volume: &mut [u32; ACCOUNTS],
+    cash: &mut [i64; ACCOUNTS],
+) -> Reached
+    requires { ⌜ Ready (now file) (bookOf (from .figures) (now opening) (now position) (now cost) (now volume) (now cash)) (from .accepted) (from .at) ⌝ }
+    ensures { λ r. ⌜ Running (now (file .entry)) (bookOf (from .figures) (now (opening .entry)) (now (position .entry)) (now (cost .entry)) (now (volume .entry)) (now (cash .entry))) (from .accepted) (from .at) (bookOf (r .figures) (now (opening .exit)) (now (position .exit)) (now (cost .exit)) (now (volume .exit)) (now (cash .exit))) (r .accepted) (r .at) × (from .at < length (now (file .entry)) → from .at < r .at) ⌝ }
+{
+    let mut after = from;
+    match dayfile::read_record(file, from.at) {
+        Read::End => {
+            after.at = file.len();
+        }
+        Read::CutOff => {
+            after.at = file.len();
+        }
+        Read::Known(next, call) => {
+            let figures = from.figures;
+            let outcome = step_on(figures, opening, position, cost, volume, cash, call);
+            let stepped = outcome.figures;
+            after.figures = stepped;
+            after.accepted = count(from.accepted, outcome.code);
+            after.at = next;
+        }
+        Read::WrongLength(next) => {
+            after.at = next;
+        }
+        Read::Unknown(next) => {
+            after.at = next;
+        }
+    }
+    after
+}
+
 // Runs a book within its limits over the records of a file. The columns stay in place from record to record. Minute ends and
 // trades, which most records are, are played by loops of their own, in which the machine has few numbers to keep.
 fn run(book: Book, file: &[u8]) -> Ran
@@ -145,16 +184,14 @@ fn run(book: Book, file: &[u8]) -> Ran
     let mut cost = book.cost;
     let mut volume = book.volume;
     let mut cash = book.cash;
-    let mut figures = book.figures;
-    let mut accepted: u64 = 0;
-    let mut at: usize = 0;
-    loop {
-        let began = Reached {
-            accepted,
-            at,
-            figures,
-        };
-        let ends = minute_ends(began, file, &opening, &position, &cost, &volume, &cash);
+    let figures = book.figures;
+    let mut reached = Reached {
+        accepted: 0,
+        at: 0,
+        figures,
+    };
+    while reached.at < file.len() {
+        let ends = minute_ends(reached, file, &opening, &position, &cost, &volume, &cash);
         let traded = trades(
             ends,
             file,
@@ -164,44 +201,21 @@ fn run(book: Book, file: &[u8]) -> Ran
             &mut volume,
             &cash,
         );
-        let moved = at < traded.at;
-        let reached = traded.figures;
-        figures = reached;
-        accepted = traded.accepted;
-        at = traded.at;
-        if moved {
+        if reached.at < traded.at {
+            reached = traded;
             continue;
         }
-        match dayfile::read_record(file, at) {
-            Read::End => {
-                return ended(accepted, figures, opening, position, cost, volume, cash);
-            }
-            Read::CutOff => {
-                return ended(accepted, figures, opening, position, cost, volume, cash);
-            }
-            Read::Known(next, call) => {
-                let outcome = step_on(
-                    figures,
-                    &mut opening,
-                    &mut position,
-                    &mut cost,
-                    &mut volume,
-                    &mut cash,
-                    call,
-                );
-                let after = outcome.figures;
-                figures = after;
-                accepted = count(accepted, outcome.code);
-                at = next;
-            }
-            Read::WrongLength(next) => {
-                at = next;
-            }
-            Read::Unknown(next) => {
-                at = next;
-            }
-        }
+        reached = any_record(
+            traded,
+            file,
+            &mut opening,
+            &mut position,
+            &mut cost,
+            &mut volume,
+            &mut cash,
+        );
     }
+    ended(reached, opening, position, cost, volume, cash)
 }
 
 // Runs a fresh book of this size over a file, reports it to both lists and answers how many records were accepted. Where the

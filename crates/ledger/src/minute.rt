@@ -54,11 +54,11 @@ impl Day {
         ensures { λ r. ⌜ r ≡ minuteEnded self valid index ⌝ }
     {
         let mut day = self;
-        day.minutes = self.minutes + 1;
-        day.valid = self.valid_after(valid);
-        day.weighted = self.weighted_after(valid, index);
         day.minute = self.market.as_minute(Market::none());
         day.index = self.index_after(index);
+        day.weighted = self.weighted_after(valid, index);
+        day.valid = self.valid_after(valid);
+        day.minutes = self.minutes + 1;
         day
     }
 }

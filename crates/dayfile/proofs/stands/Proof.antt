@@ -32,16 +32,17 @@ inside c =
 body-length-requires : tie.Need-body-length-requires
 body-length-requires c κs = search needs
 
+add-bytes : tie.Need-add-bytes
+add-bytes c = record { fits = omega (arith, c .body-length .ensures, short (c .before .before .args .tag)) }
+
 returns : tie.Need-returns
 returns c =
-    let s = c .before .before .before .args in
-    rw (lt-leb (bodyAt (s .at) + bodyLength (s .tag)) (length (s .file .now)) (omega arith))
+    let b = c .before in
+    let s = b .before .before .args in
+    rw (lt-leb (bodyAt (s .at) + bodyLength (s .tag)) (length (s .file .now)) (omega (arith, b .body-length .ensures)))
 
 sub-if2 : tie.Need-sub-if2
 sub-if2 c = search needs
-
-add-if2 : tie.Need-add-if2
-add-if2 c = let b = c .before in record { fits = omega (arith, b .body-length .ensures, short (b .before .before .args .tag)) }
 
 returns-2 : tie.Need-returns-2
 returns-2 c =
@@ -80,9 +81,9 @@ stands-spec =
     tie.close
     (tie.spec
     body-length-requires
+    add-bytes
     returns
     sub-if2
-    add-if2
     returns-2
     shared-slice-read-if3
     byte-of-requires

@@ -10,7 +10,7 @@ with-markets-requires : tie.Need-with-markets-requires
 with-markets-requires c κs = search needs
 
 returns : tie.Need-returns
-returns c = cc
+returns c = rw (c .with-markets .ensures, c .before .as-minute .ensures)
 
 pub quoted-spec : {M : Type 1} → statement M
 quoted-spec = tie.close (tie.spec as-minute-requires with-markets-requires returns)

@@ -7,7 +7,7 @@ empty-requires : tie.Need-empty-requires
 empty-requires c κs = search needs
 
 returns : tie.Need-returns
-returns c = cc
+returns c = rw (c .empty .ensures)
 
 pub fresh-book-spec : {M : Type 1} → statement M
 fresh-book-spec = tie.close (tie.spec empty-requires returns)

@@ -16,10 +16,10 @@ fresh-book-requires-2 : tie.Need-fresh-book-requires-2
 fresh-book-requires-2 c κs = search needs
 
 returns : tie.Need-returns
-returns c = rw (c .before .before .if1 .taken) (cc)
+returns c = rw (c .before .before .if1 .taken, c .before .none .ensures, c .fresh-book .ensures)
 
 returns-2 : tie.Need-returns-2
-returns-2 c = rw (c .before .before .if1 .left) (cc)
+returns-2 c = rw (c .before .before .if1 .left, c .before .none2 .ensures, c .fresh-book2 .ensures)
 
 pub opening-spec : {M : Type 1} → statement M
 opening-spec =
