@@ -1,15 +1,16 @@
 -- The order of ℤ, sizes (`natAbs`) and fits, each tied to `up` and `dn`, so that `omega` decides them.
 --     ints       `omega ints` reads `x ≤ℤ y`, `x <ℤ y`, `x ≡ y` and `SFits w64 z` in reach as facts of `up` and `dn`, and proves the first three and `SFits w64 z`
 --     size z     natAbs z is up z + dn z; `apart z`: one of the two is 0
+--     not-above, not-below, between     the tests of a limit
 -- Assumes nothing.
 use mathlib.Core.Path.{_≡_, refl, sym, _∙_, ap, subst}
-use mathlib.Core.Bool.{Bool, true, false}
+use mathlib.Core.Bool.{Bool, true, false, _&&_, and-true}
 use mathlib.Core.Logic.{_⊎_, inl, inr}
 use Prim.Native.Nat.{ℕ, zero, suc, _+_, _*_, _<_, _≤_, _^_, min}
 use native.Mathlib.Nat.{mul-le-mul-left, mul-le-mul-right}
 use native.Mathlib.Omega.{arith}
 use borrow.Author.Tests.{ltb-true, ltb-false, leb-true, leb-false, lt-ltb, le-ltb, le-leb, lt-leb}
-use lib.Dec.{T, leb→le, le→leb, ltb→lt, lt→ltb}
+use lib.Dec.{T, leb, leb·suc-suc, leb→le, le→leb, ltb→lt, lt→ltb}
 use lib.IntN.{ℤ, pos, negsuc, negℤ, natAbs, _+ℤ_, _-ℤ_, _*ℤ_, +ℤ-invr}
 use lib.Signed.{_≤ℤ_, _<ℤ_, leZ, ltZ}
 use mir.Syntax.{Width, w64}
@@ -143,6 +144,20 @@ abs-le z n h = (le-by (omega (arith, size z, neg-up (pos n), neg-dn (pos n))), l
 
 pub le-abs : (z : ℤ) (n : ℕ) → negℤ (pos n) ≤ℤ z → z ≤ℤ pos n → natAbs z ≤ n
 le-abs z n h k = omega (arith, size z, apart z, neg-up (pos n), neg-dn (pos n), le-to h, le-to k)
+
+-- and of tests: the limit above alone, the limit below alone, and both
+pub not-above : (z : ℤ) (n : ℕ) → dn z ≤ n → leZ z (pos n) ≡ leb (natAbs z) n
+not-above (pos m) n h = refl
+not-above (negsuc m) n h = sym (le-leb (suc m) n h)
+
+pub not-below : (z : ℤ) (n : ℕ) → up z ≤ n → leZ (negℤ (pos n)) z ≡ leb (natAbs z) n
+not-below (pos m) n h = true-leZ (negℤ (pos n)) (pos m) (omega (arith, neg-up (pos n), neg-dn (pos n))) ∙ sym (le-leb m n h)
+not-below (negsuc m) zero h = sym (lt-leb (suc m) 0 (omega arith))
+not-below (negsuc m) (suc n) h = sym (leb·suc-suc m n)
+
+pub between : (z : ℤ) (n : ℕ) → leZ (negℤ (pos n)) z && leZ z (pos n) ≡ leb (natAbs z) n
+between (pos m) n = ap (λ t. t && leb m n) (true-leZ (negℤ (pos n)) (pos m) (omega (arith, neg-up (pos n), neg-dn (pos n))))
+between (negsuc m) n = and-true (leZ (negℤ (pos n)) (negsuc m)) ∙ not-below (negsuc m) n (omega arith)
 
 -- ---- fits
 pub sfits-abs : {w : Width} {z : ℤ} → natAbs z < 2 ^ hbits w → SFits w z

@@ -1,12 +1,13 @@
 -- Columns of numbers: what is said of every account, sums over the accounts, and a column's entries.
 --     all-at, all-by     what holds of every account holds of each, and conversely
+--     all-not            what doesn't hold of one account
 --     sum-most           a sum of numbers with a bound
 --     sum-raised         the sum over a column with one entry raised
 --     entry-raised, count-raised     how far an entry rises where one is raised
 --     table-length, table-at     a table's length and entries
 -- Assumes nothing.
 use mathlib.Core.Path.{_≡_, refl, sym, _∙_, ap, subst}
-use mathlib.Core.Bool.{Bool, true, _&&_}
+use mathlib.Core.Bool.{Bool, true, false, _&&_, true≢false}
 use mathlib.Core.List.{List, [], _∷_}
 use mathlib.Core.Logic.{_⊎_, inl, inr, ⊎-elim}
 use Prim.Native.Nat.{ℕ, zero, suc, _+_, _*_, _<_, _≤_}
@@ -44,6 +45,14 @@ pub all-by : (n : ℕ) (p : ℕ → Bool) → ((i : ℕ) → i < n → p i ≡ t
 unfolding allBelow
 all-by zero p h = refl
 all-by (suc n) p h = all-by n p (λ i l. h i (omega arith)) and h n (omega arith)
+
+-- one account of which it doesn't hold
+pub all-not : (n : ℕ) (p : ℕ → Bool) (i : ℕ) → i < n → p i ≡ false → allBelow n p ≡ false
+all-not n p i l h = not-so (allBelow n p) refl
+  where
+    not-so : (t : Bool) → allBelow n p ≡ t → t ≡ false
+    not-so true e = absurd (true≢false (sym (all-at n p e i l) ∙ h))
+    not-so false e = refl
 
 -- ---- sums over the accounts
 

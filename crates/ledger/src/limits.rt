@@ -4,6 +4,7 @@ ghost use Prim.Native.Nat.{_≤_};
 ghost use Rattle.funding.specs.Minute.{weightedLimit};
 ghost use Rattle.ledger.specs.Columns.{accounts, countAt, allBelow, sumBelow};
 ghost use Rattle.ledger.specs.Day.{twoSided};
+ghost use Rattle.ledger.specs.Inner.{bookOf};
 ghost use Rattle.ledger.specs.Limits.{noneOrPrice, noneOrTicked, within, uncrossed, marketHolds, minuteHolds, minutesHold, pricesHold, fixHolds, finalHolds, dayHolds, figuresHold, accountHolds, accountOf, withinLimits};
 use crate::ACCOUNTS;
 use crate::Book;
@@ -129,15 +130,22 @@ impl Figures {
     }
 }
 
+fn position_holds(position: i64) -> bool
+    ensures { λ r. ⌜ r ≡ within position 1200000 ⌝ }
+{
+    let most = MOST_POSITION as i64;
+    (0 - most <= position) & (position <= most)
+}
+
 // The product of days and a day's largest posting has to fit: days within their own limit are asked.
 fn account_holds(closed: u32, opening: i64, position: i64, cost: i64, v: u32, cash: i64) -> bool
     requires { ⌜ closed ≤ 2600 ⌝ }
     ensures { λ r. ⌜ r ≡ accountHolds closed opening position cost v cash ⌝ }
 {
-    if !is_within(opening, MOST_POSITION) {
+    if !position_holds(opening) {
         return false;
     }
-    if !is_within(position, MOST_POSITION) {
+    if !position_holds(position) {
         return false;
     }
     if MOST_VOLUME < v {
@@ -149,34 +157,38 @@ fn account_holds(closed: u32, opening: i64, position: i64, cost: i64, v: u32, ca
     is_within(cash, closed as u64 * MOST_POSTING)
 }
 
-fn accounts_hold(b: Book) -> bool
-    requires { ⌜ b .figures .closed ≤ 2600 ⌝ }
-    ensures { λ r. ⌜ r ≡ allBelow accounts (accountOf b) ⌝ }
+// The columns are lent, so that a test of the book copies none of them.
+fn accounts_hold(
+    figures: Figures,
+    opening: &[i64; ACCOUNTS],
+    position: &[i64; ACCOUNTS],
+    cost: &[i64; ACCOUNTS],
+    volume: &[u32; ACCOUNTS],
+    cash: &[i64; ACCOUNTS],
+) -> bool
+    requires { ⌜ figures .closed ≤ 2600 ⌝ }
+    ensures { λ r. ⌜ r ≡ allBelow accounts (accountOf (bookOf figures (now (opening .entry)) (now (position .entry)) (now (cost .entry)) (now (volume .entry)) (now (cash .entry)))) ⌝ }
 {
-    let closed = b.figures.closed;
-    let mut ok = true;
+    let closed = figures.closed;
     let mut i: usize = 0;
     while i < ACCOUNTS {
-        let opening = b.opening[i];
-        let position = b.position[i];
-        let cost = b.cost[i];
-        let v = b.volume[i];
-        let cash = b.cash[i];
-        ok = ok & account_holds(closed, opening, position, cost, v, cash);
+        let v = volume[i];
+        if !account_holds(closed, opening[i], position[i], cost[i], v, cash[i]) {
+            return false;
+        }
         i += 1;
     }
-    ok
+    true
 }
 
 // The contracts that all accounts bought plus sold today.
-fn volume_of(b: Book) -> u64
-    ensures { λ r. ⌜ r ≡ sumBelow accounts (countAt (b .volume)) ⌝ }
+fn volume_of(volume: [u32; ACCOUNTS]) -> u64
+    ensures { λ r. ⌜ r ≡ sumBelow accounts (countAt volume) ⌝ }
 {
     let mut sum: u64 = 0;
     let mut i: usize = 0;
     while i < ACCOUNTS {
-        let v = b.volume[i];
-        sum += v as u64;
+        sum += volume[i] as u64;
         i += 1;
     }
     sum
@@ -188,8 +200,14 @@ impl Book {
         ensures { λ r. ⌜ r ≡ withinLimits accounts self ⌝ }
     {
         if self.figures.holds() {
-            let v = volume_of(self);
-            accounts_hold(self) & final_holds(self.figures.day.traded, v)
+            let figures = self.figures;
+            let opening = self.opening;
+            let position = self.position;
+            let cost = self.cost;
+            let volume = self.volume;
+            let cash = self.cash;
+            let hold = accounts_hold(figures, &opening, &position, &cost, &volume, &cash);
+            hold & final_holds(figures.day.traded, volume_of(volume))
         } else {
             false
         }

@@ -3,7 +3,7 @@ ghost use mathlib.Core.Path.{_≡_};
 ghost use Rattle.ledger.specs.Columns.{accounts};
 ghost use Rattle.ledger.specs.Day.{asMinute};
 ghost use Rattle.ledger.specs.Effects.{withMarkets, quoted};
-ghost use Rattle.ledger.specs.Refusals.{isFull};
+ghost use Rattle.ledger.specs.Refusals.{isFull, orElse};
 ghost use Rattle.ledger.specs.Inner.{outcome, figuresRefusal};
 ghost use Rattle.ledger.specs.Inner.{refused as Inner·refused};
 ghost use Rattle.ledger.specs.Inner.{accepted as Inner·accepted};
@@ -75,14 +75,14 @@ impl Figures {
         after.accepted()
     }
 
-    // The number of a halt's refusal, 0 for none.
-    fn halt_code(self) -> u8
-        ensures { λ r. ⌜ r ≡ figuresRefusal accounts self Call.Halt ⌝ }
+    // The number of a halt's or a resumption's refusal, 0 for none. The halt forbids the one, and that there is none the other.
+    fn halt_code(self, forbidden: bool) -> u8
+        ensures { λ r. ⌜ r ≡ orElse (isFull self) 3 (orElse forbidden 4 0) ⌝ }
     {
         if self.is_full() {
             return 3;
         }
-        if self.halted {
+        if forbidden {
             return 4;
         }
         0
@@ -91,7 +91,7 @@ impl Figures {
     pub(crate) fn halt(self) -> Outcome
         ensures { λ r. ⌜ r ≡ outcome self (figuresRefusal accounts self Call.Halt) Call.Halt ⌝ }
     {
-        let code = self.halt_code();
+        let code = self.halt_code(self.halted);
         if code != 0 {
             return self.refused(code);
         }
@@ -101,23 +101,10 @@ impl Figures {
         after.accepted()
     }
 
-    // The number of a resumption's refusal, 0 for none.
-    fn resume_code(self) -> u8
-        ensures { λ r. ⌜ r ≡ figuresRefusal accounts self Call.Resume ⌝ }
-    {
-        if self.is_full() {
-            return 3;
-        }
-        if !self.halted {
-            return 4;
-        }
-        0
-    }
-
     pub(crate) fn resume(self) -> Outcome
         ensures { λ r. ⌜ r ≡ outcome self (figuresRefusal accounts self Call.Resume) Call.Resume ⌝ }
     {
-        let code = self.resume_code();
+        let code = self.halt_code(!self.halted);
         if code != 0 {
             return self.refused(code);
         }

@@ -1,6 +1,5 @@
 // trade-bench: a million trades on a book that each call takes and hands back, for benchmarks/run to time. It prints how many
 // were accepted: all of them.
-use ledger::Answer;
 use ledger::Book;
 use ledger::Trade;
 use ledger::product::Product;

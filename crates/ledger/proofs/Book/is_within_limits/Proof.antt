@@ -14,15 +14,16 @@ use Rattle.ledger.proofs.Book.is_within_limits.Tie as tie
 holds-requires : tie.Need-holds-requires
 holds-requires c κs = search needs
 
-volume-of-requires : tie.Need-volume-of-requires
-volume-of-requires c κs = search needs
-
 accounts-hold-requires : tie.Need-accounts-hold-requires
 unfolding figuresHold
 accounts-hold-requires c κs =
-    let f = c .before .before .before .args .self .figures in
-    let h : figuresHold f ≡ true = sym (c .before .before .holds .ensures) ∙ c .before .if1 .taken in
+    let t = c .before .before .before .before .before .before .before .before .before .before .before in
+    let f = t .before .before .args .self .figures in
+    let h : figuresHold f ≡ true = sym (t .before .holds .ensures) ∙ t .if1 .taken in
     leb-true (f .closed) 2600 (each (isSize (f .size)) (leb (f .closed) 2600 ∷ noneOrPrice (f .previous .price) ∷ noneOrPrice (f .previous .index) ∷ dayHolds (f .day) ∷ []) h 1)
+
+volume-of-requires : tie.Need-volume-of-requires
+volume-of-requires c κs = search needs
 
 final-holds-requires : tie.Need-final-holds-requires
 final-holds-requires c κs = search needs
@@ -30,9 +31,10 @@ final-holds-requires c κs = search needs
 returns : tie.Need-returns
 unfolding withinLimits
 returns c =
-    let t = c .before .before .before in
+    let a = c .before .before in
+    let t = a .before .before .before .before .before .before .before .before .before .before .before .before in
     let h : figuresHold (t .before .before .args .self .figures) ≡ true = sym (t .before .holds .ensures) ∙ t .if1 .taken in
-    rw (h, c .before .accounts-hold .ensures, c .final-holds .ensures, c .before .before .volume-of .ensures)
+    rw (h, a .accounts-hold .ensures, c .final-holds .ensures, c .before .volume-of .ensures)
 
 returns-2 : tie.Need-returns-2
 unfolding withinLimits
@@ -42,4 +44,4 @@ returns-2 c =
 
 pub is-within-limits-spec : {M : Type 1} → statement M
 is-within-limits-spec =
-    tie.close (tie.spec holds-requires volume-of-requires accounts-hold-requires final-holds-requires returns returns-2)
+    tie.close (tie.spec holds-requires accounts-hold-requires volume-of-requires final-holds-requires returns returns-2)

@@ -1,5 +1,6 @@
 -- `ledger::Figures::halt` meets its contract: its refusal, or a halt with no market. Assumes nothing.
 use mathlib.Core.Path.{_∙_}
+use mathlib.Core.Bool.{or-false}
 use borrow.Author.Needs.{needs}
 use Rattle.ledger.specs.Effects.{figuresAfter, fixingOf}
 use Rattle.ledger.specs.declared.Call.the-variants as call
@@ -17,7 +18,7 @@ returns : tie.Need-returns
 returns c =
     let t = c .before in
     let a = t .before .before .args in
-    refused-is (a .self) call.Halt (t .before .halt-code .ensures) (t .if1 .taken) (c .refused .ensures)
+    refused-is (a .self) call.Halt (t .before .halt-code .ensures ∙ rw or-false) (t .if1 .taken) (c .refused .ensures)
 
 none-requires : tie.Need-none-requires
 none-requires c κs = search needs
@@ -36,7 +37,7 @@ unfolding figuresAfter fixingOf
 returns-2 c =
     let t = c .before .before .before .before in
     let a = t .before .before .args in
-    accepted-is (a .self) call.Halt (t .before .halt-code .ensures) (t .if1 .left) (c .accepted .ensures ∙ rw (c .before .with-markets .ensures, c .before .before .none2 .ensures, c .before .before .before .none .ensures))
+    accepted-is (a .self) call.Halt (t .before .halt-code .ensures ∙ rw or-false) (t .if1 .left) (c .accepted .ensures ∙ rw (c .before .with-markets .ensures, c .before .before .none2 .ensures, c .before .before .before .none .ensures))
 
 pub halt-spec : {M : Type 1} → statement M
 halt-spec =

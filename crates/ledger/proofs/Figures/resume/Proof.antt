@@ -1,4 +1,6 @@
 -- `ledger::Figures::resume` meets its contract: its refusal, or no halt. Assumes nothing.
+use mathlib.Core.Path.{_∙_}
+use mathlib.Core.Bool.{or-false}
 use borrow.Author.Needs.{needs}
 use Rattle.ledger.specs.Effects.{figuresAfter, fixingOf}
 use Rattle.ledger.specs.declared.Call.the-variants as call
@@ -6,8 +8,8 @@ use Rattle.ledger.proofs.Outcomes.{refused-is, accepted-is}
 use Rattle.ledger.proofs.Figures.resume.Statement.{statement}
 use Rattle.ledger.proofs.Figures.resume.Tie as tie
 
-resume-code-requires : tie.Need-resume-code-requires
-resume-code-requires c κs = search needs
+halt-code-requires : tie.Need-halt-code-requires
+halt-code-requires c κs = search needs
 
 refused-requires : tie.Need-refused-requires
 refused-requires c κs = search needs
@@ -15,8 +17,8 @@ refused-requires c κs = search needs
 returns : tie.Need-returns
 returns c =
     let t = c .before in
-    let a = t .before .before .args in
-    refused-is (a .self) call.Resume (t .before .resume-code .ensures) (t .if1 .taken) (c .refused .ensures)
+    let a = t .before .before .before .args in
+    refused-is (a .self) call.Resume (t .before .halt-code .ensures ∙ rw or-false) (t .if1 .taken) (c .refused .ensures)
 
 accepted-requires : tie.Need-accepted-requires
 accepted-requires c κs = search needs
@@ -25,9 +27,9 @@ returns-2 : tie.Need-returns-2
 unfolding figuresAfter fixingOf
 returns-2 c =
     let t = c .before in
-    let a = t .before .before .args in
-    accepted-is (a .self) call.Resume (t .before .resume-code .ensures) (t .if1 .left) (c .accepted .ensures)
+    let a = t .before .before .before .args in
+    accepted-is (a .self) call.Resume (t .before .halt-code .ensures ∙ rw or-false) (t .if1 .left) (c .accepted .ensures)
 
 pub resume-spec : {M : Type 1} → statement M
 resume-spec =
-    tie.close (tie.spec resume-code-requires refused-requires returns accepted-requires returns-2)
+    tie.close (tie.spec halt-code-requires refused-requires returns accepted-requires returns-2)

@@ -12,35 +12,35 @@ use Rattle.ledger.proofs.limits.account_holds.Statement.{statement}
 use Rattle.ledger.proofs.limits.account_holds.Tie as tie
 
 -- each test in turn
-opening-is : (c : tie.After-is-within) → c .is-within .result ≡ within (c .before .args .opening) 1200000
-opening-is c = c .is-within .ensures ∙ ap (λ z. within z 1200000) (toZ-ofZ (c .before .fits .opening))
+opening-is : (c : tie.After-position-holds) → c .position-holds .result ≡ within (c .before .args .opening) 1200000
+opening-is c = c .position-holds .ensures ∙ ap (λ z. within z 1200000) (toZ-ofZ (c .before .fits .opening))
 
-position-is : (c : tie.After-is-within2) → c .is-within2 .result ≡ within (c .before .before .before .args .position) 1200000
-position-is c = c .is-within2 .ensures ∙ ap (λ z. within z 1200000) (toZ-ofZ (c .before .before .before .fits .position))
+position-is : (c : tie.After-position-holds2) → c .position-holds2 .result ≡ within (c .before .before .before .args .position) 1200000
+position-is c = c .position-holds2 .ensures ∙ ap (λ z. within z 1200000) (toZ-ofZ (c .before .before .before .fits .position))
 
 opening-holds : (c : tie.Else1) → within (c .before .before .args .opening) 1200000 ≡ true
-opening-holds c = sym (opening-is (c .before)) ∙ not-false (c .before .is-within .result) (c .if1 .left)
+opening-holds c = sym (opening-is (c .before)) ∙ not-false (c .before .position-holds .result) (c .if1 .left)
 
 position-holds : (c : tie.Else2) → within (c .before .before .before .before .args .position) 1200000 ≡ true
-position-holds c = sym (position-is (c .before)) ∙ not-false (c .before .is-within2 .result) (c .if2 .left)
+position-holds c = sym (position-is (c .before)) ∙ not-false (c .before .position-holds2 .result) (c .if2 .left)
 
 v-holds : (c : tie.Else3) → leb (c .before .before .before .before .before .args .v) 2000000 ≡ true
 v-holds c = le-leb (c .before .before .before .before .before .args .v) 2000000 (omega arith)
 
-cost-is : (c : tie.After-is-within3) → let s = c .before .before .before .before .before .before in c .is-within3 .result ≡ within (s .args .cost) (s .args .v * 50000000)
-cost-is c = let s = c .before .before .before .before .before .before in c .is-within3 .ensures ∙ ap (λ z. within z (s .args .v * 50000000)) (toZ-ofZ (s .fits .cost))
+cost-is : (c : tie.After-is-within) → let s = c .before .before .before .before .before .before in c .is-within .result ≡ within (s .args .cost) (s .args .v * 50000000)
+cost-is c = let s = c .before .before .before .before .before .before in c .is-within .ensures ∙ ap (λ z. within z (s .args .v * 50000000)) (toZ-ofZ (s .fits .cost))
 
-is-within-requires : tie.Need-is-within-requires
-is-within-requires c κs = search needs
+position-holds-requires : tie.Need-position-holds-requires
+position-holds-requires c κs = search needs
 
 returns : tie.Need-returns
-returns c = rw (← opening-is (c .before), not-true (c .before .is-within .result) (c .if1 .taken))
+returns c = rw (← opening-is (c .before), not-true (c .before .position-holds .result) (c .if1 .taken))
 
-is-within-requires-2 : tie.Need-is-within-requires-2
-is-within-requires-2 c κs = search needs
+position-holds-requires-2 : tie.Need-position-holds-requires-2
+position-holds-requires-2 c κs = search needs
 
 returns-2 : tie.Need-returns-2
-returns-2 c = rw (opening-holds (c .before .before), ← position-is (c .before), not-true (c .before .is-within2 .result) (c .if2 .taken))
+returns-2 c = rw (opening-holds (c .before .before), ← position-is (c .before), not-true (c .before .position-holds2 .result) (c .if2 .taken))
 
 returns-3 : tie.Need-returns-3
 returns-3 c =
@@ -54,19 +54,19 @@ cast-is-within c = search needs
 mul-is-within : tie.Need-mul-is-within
 mul-is-within c = search needs
 
-is-within-requires-3 : tie.Need-is-within-requires-3
-is-within-requires-3 c κs = search needs
+is-within-requires : tie.Need-is-within-requires
+is-within-requires c κs = search needs
 
 returns-4 : tie.Need-returns-4
 returns-4 c =
     let v = c .before .before in
-    rw (opening-holds (v .before .before .before), position-holds (v .before), v-holds v, ← cost-is (c .before), not-true (c .before .is-within3 .result) (c .if4 .taken))
+    rw (opening-holds (v .before .before .before), position-holds (v .before), v-holds v, ← cost-is (c .before), not-true (c .before .is-within .result) (c .if4 .taken))
 
 mul-is-within-2 : tie.Need-mul-is-within-2
 mul-is-within-2 c = search needs
 
-is-within-requires-4 : tie.Need-is-within-requires-4
-is-within-requires-4 c κs = search needs
+is-within-requires-2 : tie.Need-is-within-requires-2
+is-within-requires-2 c κs = search needs
 
 returns-5 : tie.Need-returns-5
 returns-5 c =
@@ -78,8 +78,8 @@ returns-5 c =
       position-holds (v .before),
       v-holds v,
       ← cost-is (k .before),
-      not-false (k .before .is-within3 .result) (k .if4 .left),
-      c .is-within4 .ensures,
+      not-false (k .before .is-within .result) (k .if4 .left),
+      c .is-within2 .ensures,
       toZ-ofZ (s .fits .cash),
     )
 
@@ -87,15 +87,15 @@ pub account-holds-spec : {M : Type 1} → statement M
 account-holds-spec =
     tie.close
     (tie.spec
-    is-within-requires
+    position-holds-requires
     returns
-    is-within-requires-2
+    position-holds-requires-2
     returns-2
     returns-3
     cast-is-within
     mul-is-within
-    is-within-requires-3
+    is-within-requires
     returns-4
     mul-is-within-2
-    is-within-requires-4
+    is-within-requires-2
     returns-5)

@@ -1,15 +1,19 @@
--- `ledger::limits::accounts_hold` meets its contract. The loop's invariant: whether the accounts passed hold. Assumes nothing.
-use mathlib.Core.Path.{_≡_, sym, _∙_, ap, ap₂}
-use mathlib.Core.Bool.{_&&_}
-use Prim.Native.Nat.{ℕ, _-_, _≤_}
+-- `ledger::limits::accounts_hold` meets its contract. The loop's invariant: the accounts passed hold. Assumes nothing.
+use mathlib.Core.Path.{_≡_, sym, _∙_, ap}
+use mathlib.Core.Bool.{true}
+use Prim.Native.Nat.{ℕ, _-_, _<_, _≤_}
 use native.Mathlib.Numerals.{add-one}
 use native.Mathlib.Omega.{arith}
 use lib.IntN.{ℤ}
+use borrow.Author.Tests.{not-true, not-false}
 use borrow.Author.Needs.{needs}
 use Rattle.integers.proofs.Machine.{read-back}
+use Rattle.ledger.specs.declared.Book.{Book}
 use Rattle.ledger.specs.Columns.{entry, countAt, allBelow}
 use Rattle.ledger.specs.Limits.{accountHolds, accountOf}
-use Rattle.ledger.proofs.Columns.{allBelow-zero, allBelow-suc}
+use Rattle.ledger.specs.Inner.{bookOf}
+use Rattle.ledger.proofs.Tests.{_and_}
+use Rattle.ledger.proofs.Columns.{allBelow-zero, allBelow-suc, all-not}
 use Rattle.ledger.proofs.limits.accounts_hold.Statement.{statement}
 use Rattle.ledger.proofs.limits.accounts_hold.Tie as tie
 
@@ -17,31 +21,31 @@ same : (closed v : ℕ) {o o′ p p′ c c′ m m′ : ℤ} → o ≡ o′ → p
 same closed v e f g h = rw (e, f, g, h)
 
 abbrev Inv-loop : tie.InvT-loop
-Inv-loop b closed ok₀ i₀ ok i = (i ≤ 256) × (ok ≡ allBelow i (accountOf b))
+Inv-loop opening position cost volume cash closed i₀ i =
+    (i ≤ 256) × (allBelow i (λ j. accountHolds closed (entry opening j) (entry position j) (entry cost j) (countAt volume j) (entry cash j)) ≡ true)
 
 abbrev μ-loop : tie.MeasureT-loop
-μ-loop b closed ok₀ i₀ ok i = 256 - i
+μ-loop opening position cost volume cash closed i₀ i = 256 - i
+
+-- the book whose columns are lent
+abbrev bookAt : tie.Start Inv-loop μ-loop → Book
+bookAt s = let a = s .args in bookOf (a .figures) (a .opening .now) (a .position .now) (a .cost .now) (a .volume .now) (a .cash .now)
+
+-- the account's test
+tested : (c : tie.After-account-holds Inv-loop μ-loop) → let l = c .before .before .before .before .before .before .before in c .account-holds .result ≡ accountOf (bookAt (l .before)) (l .loop .i)
+tested c =
+    let l = c .before .before .before .before .before .before .before in
+    let b = bookAt (l .before) in
+    let i = l .loop .i in
+    c .account-holds .ensures
+    ∙ same (b .figures .closed) (countAt (b .volume) i)
+    (read-back (entry (b .opening) i) (c .before .before .before .before .account-holds-arg .given))
+    (read-back (entry (b .position) i) (c .before .before .before .account-holds-arg2 .given))
+    (read-back (entry (b .cost) i) (c .before .before .account-holds-arg3 .given))
+    (read-back (entry (b .cash) i) (c .before .account-holds-arg4 .given))
 
 loop-holds : tie.Need-loop-holds Inv-loop μ-loop
 loop-holds c = (search needs, rw allBelow-zero)
-
-mul-opening : tie.Need-mul-opening Inv-loop μ-loop
-mul-opening c = search needs
-
-element-copy-out-opening : tie.Need-element-copy-out-opening Inv-loop μ-loop
-element-copy-out-opening c = search needs
-
-mul-position : tie.Need-mul-position Inv-loop μ-loop
-mul-position c = search needs
-
-element-copy-out-position : tie.Need-element-copy-out-position Inv-loop μ-loop
-element-copy-out-position c = search needs
-
-mul-cost : tie.Need-mul-cost Inv-loop μ-loop
-mul-cost c = search needs
-
-element-copy-out-cost : tie.Need-element-copy-out-cost Inv-loop μ-loop
-element-copy-out-cost c = search needs
 
 mul-v : tie.Need-mul-v Inv-loop μ-loop
 mul-v c = search needs
@@ -49,14 +53,40 @@ mul-v c = search needs
 element-copy-out-v : tie.Need-element-copy-out-v Inv-loop μ-loop
 element-copy-out-v c = search needs
 
-mul-cash : tie.Need-mul-cash Inv-loop μ-loop
-mul-cash c = search needs
+mul-account-holds : tie.Need-mul-account-holds Inv-loop μ-loop
+mul-account-holds c = search needs
 
-element-copy-out-cash : tie.Need-element-copy-out-cash Inv-loop μ-loop
-element-copy-out-cash c = search needs
+element-copy-out-account-holds : tie.Need-element-copy-out-account-holds Inv-loop μ-loop
+element-copy-out-account-holds c = search needs
+
+mul-account-holds-2 : tie.Need-mul-account-holds-2 Inv-loop μ-loop
+mul-account-holds-2 c = search needs
+
+element-copy-out-account-holds-2 : tie.Need-element-copy-out-account-holds-2 Inv-loop μ-loop
+element-copy-out-account-holds-2 c = search needs
+
+mul-account-holds-3 : tie.Need-mul-account-holds-3 Inv-loop μ-loop
+mul-account-holds-3 c = search needs
+
+element-copy-out-account-holds-3 : tie.Need-element-copy-out-account-holds-3 Inv-loop μ-loop
+element-copy-out-account-holds-3 c = search needs
+
+mul-account-holds-4 : tie.Need-mul-account-holds-4 Inv-loop μ-loop
+mul-account-holds-4 c = search needs
+
+element-copy-out-account-holds-4 : tie.Need-element-copy-out-account-holds-4 Inv-loop μ-loop
+element-copy-out-account-holds-4 c = search needs
 
 account-holds-requires : tie.Need-account-holds-requires Inv-loop μ-loop
 account-holds-requires c κs = search needs
+
+-- an account that doesn't hold
+returns : tie.Need-returns Inv-loop μ-loop
+returns c =
+    let l = c .before .before .before .before .before .before .before .before in
+    let i = l .loop .i in
+    let h : i < 256 = search needs in
+    sym (all-not 256 (accountOf (bookAt (l .before))) i h (sym (tested (c .before)) ∙ not-true (c .before .account-holds .result) (c .if1 .taken)))
 
 add-i : tie.Need-add-i Inv-loop μ-loop
 add-i c = search needs
@@ -66,20 +96,14 @@ loop-less c = search needs
 
 loop-again : tie.Need-loop-again Inv-loop μ-loop
 loop-again c =
-    let turn = c .before .before .before .before .before .before in
-    let b = turn .before .before .args .t1 in
-    let i = turn .before .loop .i in
-    let e : c .account-holds .result ≡ accountOf b i =
-    c .account-holds .ensures
-    ∙ same (b .figures .closed) (countAt (b .volume) i)
-    (read-back (entry (b .opening) i) (c .before .before .before .before .before .opening .given))
-    (read-back (entry (b .position) i) (c .before .before .before .before .position .given))
-    (read-back (entry (b .cost) i) (c .before .before .before .cost .given))
-    (read-back (entry (b .cash) i) (c .before .cash .given)) in
-    (search needs, ap₂ _&&_ (turn .before .loop .inv .1) e ∙ sym (allBelow-suc i (accountOf b)) ∙ ap (λ (n : ℕ). allBelow n (accountOf b)) (sym (add-one i)))
+    let l = c .before .before .before .before .before .before .before .before in
+    let b = bookAt (l .before) in
+    let i = l .loop .i in
+    let h : accountOf b i ≡ true = sym (tested (c .before)) ∙ not-false (c .before .account-holds .result) (c .if1 .left) in
+    (search needs, ap (λ (n : ℕ). allBelow n (accountOf b)) (add-one i) ∙ allBelow-suc i (accountOf b) ∙ (l .loop .inv .1 and h))
 
-returns : tie.Need-returns Inv-loop μ-loop
-returns c = let e : c .before .loop .i ≡ 256 = omega arith in rw e at (c .before .loop .inv .1)
+returns-2 : tie.Need-returns-2 Inv-loop μ-loop
+returns-2 c = let e : c .before .loop .i ≡ 256 = omega arith in sym (rw e at (c .before .loop .inv .1))
 
 pub accounts-hold-spec : {M : Type 1} → statement M
 accounts-hold-spec =
@@ -88,18 +112,19 @@ accounts-hold-spec =
     Inv-loop
     μ-loop
     loop-holds
-    mul-opening
-    element-copy-out-opening
-    mul-position
-    element-copy-out-position
-    mul-cost
-    element-copy-out-cost
     mul-v
     element-copy-out-v
-    mul-cash
-    element-copy-out-cash
+    mul-account-holds
+    element-copy-out-account-holds
+    mul-account-holds-2
+    element-copy-out-account-holds-2
+    mul-account-holds-3
+    element-copy-out-account-holds-3
+    mul-account-holds-4
+    element-copy-out-account-holds-4
     account-holds-requires
+    returns
     add-i
     loop-less
     loop-again
-    returns)
+    returns-2)

@@ -12,25 +12,25 @@ use Rattle.ledger.proofs.limits.volume_of.Statement.{statement}
 use Rattle.ledger.proofs.limits.volume_of.Tie as tie
 
 abbrev Inv-loop : tie.InvT-loop
-Inv-loop b sum₀ i₀ sum i = (i ≤ 256) × (sum ≤ i * 4294967296) × (sum ≡ sumBelow i (countAt (b .volume)))
+Inv-loop volume sum₀ i₀ sum i = (i ≤ 256) × (sum ≤ i * 4294967296) × (sum ≡ sumBelow i (countAt volume))
 
 abbrev μ-loop : tie.MeasureT-loop
-μ-loop b sum₀ i₀ sum i = 256 - i
+μ-loop volume sum₀ i₀ sum i = 256 - i
 
 loop-holds : tie.Need-loop-holds Inv-loop μ-loop
 loop-holds c = (search needs, search needs, rw sumBelow-zero)
 
-mul-v : tie.Need-mul-v Inv-loop μ-loop
-mul-v c = search needs
+mul-sum : tie.Need-mul-sum Inv-loop μ-loop
+mul-sum c = search needs
 
-element-copy-out-v : tie.Need-element-copy-out-v Inv-loop μ-loop
-element-copy-out-v c = search needs
+array-read-sum : tie.Need-array-read-sum Inv-loop μ-loop
+array-read-sum c = search needs
 
 cast-sum : tie.Need-cast-sum Inv-loop μ-loop
 cast-sum c = search needs
 
 add-sum : tie.Need-add-sum Inv-loop μ-loop
-add-sum c = let f : Fits w32 (countAt (c .before .before .before .args .t1 .volume) (c .before .before .loop .i)) = search needs in omega arith
+add-sum c = let f : Fits w32 (countAt (c .before .before .args .t1) (c .before .loop .i)) = search needs in omega arith
 
 add-i : tie.Need-add-i Inv-loop μ-loop
 add-i c = search needs
@@ -40,12 +40,12 @@ loop-less c = search needs
 
 loop-again : tie.Need-loop-again Inv-loop μ-loop
 loop-again c =
-    let f : Fits w32 (countAt (c .before .before .before .args .t1 .volume) (c .before .before .loop .i)) = search needs in
-    (search needs, omega arith, rw (add-one, sumBelow-suc, ← c .before .before .loop .inv .2))
+    let f : Fits w32 (countAt (c .before .before .args .t1) (c .before .loop .i)) = search needs in
+    (search needs, omega arith, rw (add-one, sumBelow-suc, ← c .before .loop .inv .2))
 
 returns : tie.Need-returns Inv-loop μ-loop
 returns c = let e : c .before .loop .i ≡ 256 = omega arith in rw e at (c .before .loop .inv .2)
 
 pub volume-of-spec : {M : Type 1} → statement M
 volume-of-spec =
-    tie.close (tie.spec Inv-loop μ-loop loop-holds mul-v element-copy-out-v cast-sum add-sum add-i loop-less loop-again returns)
+    tie.close (tie.spec Inv-loop μ-loop loop-holds mul-sum array-read-sum cast-sum add-sum add-i loop-less loop-again returns)

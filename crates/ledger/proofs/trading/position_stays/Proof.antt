@@ -1,22 +1,18 @@
 -- `ledger::trading::position_stays` meets its contract: the two accounts' positions after the trade, of which the
 -- buyer's doesn't fall and the seller's doesn't rise. Assumes nothing.
-use mathlib.Core.Path.{_≡_, refl, sym}
 use mathlib.Core.List.{_∷_, []}
-use Prim.Native.Nat.{suc, _≤_}
+use Prim.Native.Nat.{_≤_}
 use native.Mathlib.Omega.{arith}
 use lib.Dec.{eqb}
-use lib.IntN.{ℤ, pos, negsuc, negℤ, _+ℤ_, _-ℤ_}
-use lib.Signed.{leZ}
+use lib.IntN.{pos, negℤ, _+ℤ_, _-ℤ_}
 use mir.Syntax.{w32}
 use mir.Val.{Fits}
-use borrow.Author.Tests.{le-leb}
 use borrow.Author.Needs.{needs}
-use Rattle.integers.proofs.Laws.{up, dn, add-is, neg-up, neg-dn}
-use Rattle.integers.proofs.Order.{size, apart}
+use Rattle.integers.proofs.Laws.{add-is, neg-up, neg-dn}
+use Rattle.integers.proofs.Order.{size, apart, not-above, not-below}
 use Rattle.integers.proofs.Overflow.{arg, add, sub, val, nat, Within, _▹_, done, safe, runs}
-use Rattle.funding.proofs.Tests.{by-test, leb-same}
+use Rattle.funding.proofs.Tests.{by-test}
 use Rattle.ledger.specs.Columns.{entry}
-use Rattle.ledger.specs.Limits.{within}
 use Rattle.ledger.proofs.Raised.{buyer-entry, seller-entry}
 use Rattle.ledger.proofs.trading.position_stays.Statement.{statement}
 use Rattle.ledger.proofs.trading.position_stays.Tie as tie
@@ -66,15 +62,6 @@ cast-most c = search needs
 sub-result : tie.Need-sub-result
 sub-result c = search needs
 
--- a number that is not far below zero is within its limit where it is not above it, and the other way round
-not-above : (z : ℤ) → dn z ≤ 1200000 → leZ z (pos 1200000) ≡ within z 1200000
-not-above (pos n) h = refl
-not-above (negsuc n) h = sym (le-leb (suc n) 1200000 h)
-
-not-below : (z : ℤ) → up z ≤ 1200000 → leZ (negsuc 1199999) z ≡ within z 1200000
-not-below (pos n) h = sym (le-leb n 1200000 h)
-not-below (negsuc n) h = leb-same n 1199999 (suc n) 1200000 (λ k. omega arith) (λ k. omega arith)
-
 returns : tie.Need-returns
 returns c =
     let m = c .before .before in
@@ -88,8 +75,8 @@ returns c =
     rw (
       runs (limits m) (add (arg 0) (arg 2)) tt,
       runs (limits m) (sub (arg 1) (arg 2)) tt,
-      not-above (b +ℤ q) (omega (arith, p .buyer, size b, add-is b q, apart (b +ℤ q))),
-      not-below (a -ℤ q) (omega (arith, p .seller, size a, add-is a (negℤ q), neg-up q, neg-dn q, apart (a -ℤ q))),
+      not-above (b +ℤ q) 1200000 (omega (arith, p .buyer, size b, add-is b q, apart (b +ℤ q))),
+      not-below (a -ℤ q) 1200000 (omega (arith, p .seller, size a, add-is a (negℤ q), neg-up q, neg-dn q, apart (a -ℤ q))),
       m .moves .ensures,
       buyer-entry l (t .buyer) (t .seller) (t .quantity) (p .buyer-in) (p .seller-in),
       seller-entry l (t .buyer) (t .seller) (t .quantity) (p .buyer-in) (p .seller-in),
