@@ -31,8 +31,8 @@ compare:
 	tools/compare $(DAY)
 
 fuzz: program
-	cargo build --quiet --release --package differential
-	target-rust/release/differential --program target/bin/funding_bench --count $(N) --seed $(SEED)
+	tests/run-hosts
+	target-rust/release/differential --program target/bin/funding_bench --library-runner target-rust/hosts/library_runner --count $(N) --seed $(SEED)
 
 speed:
 	benchmarks/run
