@@ -28,15 +28,25 @@ fourBytes file at = twoBytes file at * 65536 + twoBytes file (at + 2)
 
 -- "Tag 1 trade: buyer 1 byte, seller 1, kind 1, quantity 4, price 4. Tag 2 quote: bid 4, offer 4. Tag 3 minute end: 4.
 -- Tag 4 halt, 5 resume, 7 close: 0 bytes. Tag 6 fix: 4. Other tags are unknown."
+abbrev pub byteOf : Tag → ℕ
+byteOf tag.Trade = 1
+byteOf tag.Quote = 2
+byteOf tag.MinuteEnd = 3
+byteOf tag.Halt = 4
+byteOf tag.Resume = 5
+byteOf tag.Fix = 6
+byteOf tag.Close = 7
+
+-- the tag whose byte this is
 unfoldable pub tagOf : ℕ → Tagged
 tagOf byte =
-    cond (eqb byte 1) (tagged.Known tag.Trade)
-    (cond (eqb byte 2) (tagged.Known tag.Quote)
-    (cond (eqb byte 3) (tagged.Known tag.MinuteEnd)
-    (cond (eqb byte 4) (tagged.Known tag.Halt)
-    (cond (eqb byte 5) (tagged.Known tag.Resume)
-    (cond (eqb byte 6) (tagged.Known tag.Fix)
-    (cond (eqb byte 7) (tagged.Known tag.Close)
+    cond (eqb byte (byteOf tag.Trade)) (tagged.Known tag.Trade)
+    (cond (eqb byte (byteOf tag.Quote)) (tagged.Known tag.Quote)
+    (cond (eqb byte (byteOf tag.MinuteEnd)) (tagged.Known tag.MinuteEnd)
+    (cond (eqb byte (byteOf tag.Halt)) (tagged.Known tag.Halt)
+    (cond (eqb byte (byteOf tag.Resume)) (tagged.Known tag.Resume)
+    (cond (eqb byte (byteOf tag.Fix)) (tagged.Known tag.Fix)
+    (cond (eqb byte (byteOf tag.Close)) (tagged.Known tag.Close)
     tagged.Unknown))))))
 
 -- the bytes of each tag's body, added up
@@ -98,16 +108,7 @@ readAt file at =
     (cond (ltb (length file) (nextAt file at)) read.CutOff
     (complete file at (tagOf (byteAt file at))))
 
--- the byte that `tagOf` reads as each tag, and whether a complete record of that tag and of its length stands at a place: `readAt`
--- then gives its call (both proved in proofs/Reading.antt)
-abbrev pub byteOf : Tag → ℕ
-byteOf tag.Trade = 1
-byteOf tag.Quote = 2
-byteOf tag.MinuteEnd = 3
-byteOf tag.Halt = 4
-byteOf tag.Resume = 5
-byteOf tag.Fix = 6
-byteOf tag.Close = 7
-
+-- whether a complete record of this tag and of its length stands at a place: `readAt` then gives its call (proved in
+-- proofs/Reading.antt)
 abbrev pub standsAt : List ℕ → ℕ → Tag → Bool
 standsAt file at t = leb (bodyAt at + bodyLength t) (length file) && eqb (byteAt file at) (byteOf t) && eqb (statedLength file at) (bodyLength t)
