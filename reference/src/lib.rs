@@ -24,27 +24,6 @@ use terms::{ACCOUNTS, BENCH_INPUT_LIMIT};
 /// Positions and cash of all accounts.
 pub type Lists = ([i64; ACCOUNTS], [i64; ACCOUNTS]);
 
-#[derive(Clone, Debug, PartialEq, Eq)]
-pub struct Outcome {
-    pub accepted: u64,
-    pub positions: [i64; ACCOUNTS],
-    pub cash: [i64; ACCOUNTS],
-    pub lines: Vec<String>,
-}
-
-/// A run over records, with all that it shows.
-pub fn run(size: u8, records: &[u8]) -> Outcome {
-    let rules = Rules::right();
-    let (accepted, lists) = c_run_under(rules, size, records);
-    let (positions, cash) = lists.unwrap_or(([0; ACCOUNTS], [0; ACCOUNTS]));
-    Outcome {
-        accepted,
-        positions,
-        cash,
-        lines: printout::run_lines(size, records, rules),
-    }
-}
-
 /// What `funding-bench` prints for this standard input.
 pub fn bench(input: &[u8]) -> String {
     bench_under(Rules::right(), input)

@@ -8,6 +8,7 @@ use crate::refusal::{refusal, FILE, POSITION, VOLUME};
 use crate::rules::{Rules, Wrong};
 use crate::settlement::{settlement, Settlement};
 use crate::terms::{size_is_known, ACCOUNTS};
+use crate::Lists;
 
 /// What became of one record.
 #[derive(Clone, Copy, Debug, PartialEq, Eq)]
@@ -80,7 +81,7 @@ impl Played {
     }
 
     /// Positions and cash where the run ended.
-    pub fn report(&self) -> ([i64; ACCOUNTS], [i64; ACCOUNTS]) {
+    pub fn report(&self) -> Lists {
         let closed = &self.settlements()[..self.history.closed_days()];
         let cash = Cash::after(self.history.size, closed, self.rules);
         let days = self.history.days.len();
