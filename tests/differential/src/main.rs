@@ -1,7 +1,6 @@
 //! `differential --program PATH [--library-runner PATH] --count N --seed S`: see the README.
 
 use differential::compare::Check;
-use differential::profiles::Input;
 use differential::runner::{Failure, Runner};
 use std::path::PathBuf;
 
@@ -35,12 +34,7 @@ fn main() {
 fn play_all(runner: &Runner, arguments: &Arguments) -> (u64, Option<Failure>) {
     let mut files = 0;
     for path in &arguments.inputs {
-        let bytes = std::fs::read(path).unwrap_or_else(|error| usage(&format!("{path}: {error}")));
-        let input = Input {
-            profile: "given",
-            damages: 0,
-            bytes,
-        };
+        let input = std::fs::read(path).unwrap_or_else(|error| usage(&format!("{path}: {error}")));
         files += 1;
         if let Some(failure) = runner.play("given", &input, 0) {
             return (files, Some(failure));

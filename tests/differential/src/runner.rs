@@ -1,7 +1,7 @@
 //! Plays many seeds, two processes at a time, and keeps the first difference.
 
 use crate::compare::{Check, Difference};
-use crate::profiles::{input, long_input, Input};
+use crate::profiles::{input, long_input};
 use crate::shrink::shrink;
 use std::path::{Path, PathBuf};
 use std::sync::atomic::{AtomicBool, AtomicU64, Ordering};
@@ -61,13 +61,13 @@ impl Runner {
         self.play(&format!("long-{seed}"), &long_input(seed), 0)
     }
 
-    pub fn play(&self, name: &str, input: &Input, worker: u64) -> Option<Failure> {
+    pub fn play(&self, name: &str, input: &[u8], worker: u64) -> Option<Failure> {
         let scratch = self.scratch(worker);
         self.checks.iter().find_map(|check| {
-            let difference = check.difference(&input.bytes, &scratch)?;
+            let difference = check.difference(input, &scratch)?;
             Some(Failure {
                 name: name.to_string(),
-                input: input.bytes.clone(),
+                input: input.to_vec(),
                 check: check.clone(),
                 difference,
             })

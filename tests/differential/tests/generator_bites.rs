@@ -22,7 +22,7 @@ fn differs(wrong: Wrong, input: &[u8], bench: &str, library: &str) -> bool {
 fn bites(from: u64) -> Vec<Bites> {
     let mut bites = vec![Bites::default(); Wrong::ALL.len()];
     for seed in (from..FILES).step_by(2) {
-        let input = input(seed).bytes;
+        let input = input(seed);
         let (bench, library) = (
             bench(&input),
             library_printout_under(Rules::right(), &input),
@@ -39,7 +39,7 @@ fn bites(from: u64) -> Vec<Bites> {
 
 /// A ledger with another limit of days differs only in a file of more than 2,600 days.
 fn differs_in_a_long_file(wrong: Wrong) -> bool {
-    let input = long_input(0).bytes;
+    let input = long_input(0);
     let right = library_printout_under(Rules::right(), &input);
     library_printout_under(Rules::wrong_in(wrong), &input) != right
 }
@@ -69,7 +69,7 @@ fn every_wrong_ledger_is_told_apart() {
 fn every_refusal_of_a_file_is_met() {
     let mut files = [0; 11];
     for seed in 0..FILES / 4 {
-        let printout = bench(&input(seed).bytes);
+        let printout = bench(&input(seed));
         for (number, files) in files.iter_mut().enumerate() {
             *files += usize::from(printout.contains(&format!("refused {number} record")));
         }
