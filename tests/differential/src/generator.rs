@@ -136,11 +136,6 @@ impl Generator {
         };
     }
 
-    pub fn simple_trade(&mut self, quantity: u32) {
-        let (accounts, price) = (self.two_accounts(), self.near_ticked_price());
-        self.file.trade(accounts, 0, quantity, price);
-    }
-
     /// A few calls of a minute with a market, now and then a halt.
     pub fn busy_minute(&mut self) -> usize {
         for _ in 0..self.random.between(1, 3) {
