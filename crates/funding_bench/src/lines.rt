@@ -1,10 +1,10 @@
 // The lines of the printout.
-use host::shown::Shown;
-use host::shown::is_shown;
 use ledger::ACCOUNTS;
 use ledger::Book;
 use ledger::Fixing;
 use libc::STDOUT_FILENO;
+use printout::Shown;
+use printout::is_shown;
 
 fn text(words: &[u8]) {
     io::write_all(STDOUT_FILENO, words);

@@ -1,12 +1,12 @@
 // funding-bench: reads a size and records from standard input and prints what they do. What is printed is decided in crate
-// host (shown); here it is written out.
+// printout; here it is written out.
 use dayfile::Read;
-use host::shown::play_record;
-use host::shown::shown_opening;
 use ledger::Book;
 use ledger::product::Product;
 use libc::STDIN_FILENO;
 use libc::STDOUT_FILENO;
+use printout::play_record;
+use printout::shown_opening;
 
 mod lines;
 

@@ -1,4 +1,4 @@
-// The run of a book over a day file, for programs in C, and what each record of a file prints.
+// The run of a book over a day file, for programs in C.
 ghost use mathlib.Core.Path.{_≡_};
 ghost use mathlib.Core.Bool.{cond};
 ghost use Prim.Native.Nat.{_+_, _<_, _^_};
@@ -24,8 +24,6 @@ use ledger::report::fill;
 use ledger::step::step_on;
 use ledger::trading::trade_on;
 
-pub mod shown;
-
 // Where a run ended: the records accepted, and the book.
 pub struct Ran {
     pub accepted: u64,
@@ -45,6 +43,16 @@ struct Reached {
     accepted: u64,
     at: usize,
     figures: Figures,
+}
+
+fn began(figures: Figures) -> Reached
+    ensures { λ r. ⌜ r ≡ record { accepted = 0; at = 0; figures = figures } ⌝ }
+{
+    Reached {
+        accepted: 0,
+        at: 0,
+        figures,
+    }
 }
 
 fn ended(
@@ -184,12 +192,7 @@ fn run(book: Book, file: &[u8]) -> Ran
     let mut cost = book.cost;
     let mut volume = book.volume;
     let mut cash = book.cash;
-    let figures = book.figures;
-    let mut reached = Reached {
-        accepted: 0,
-        at: 0,
-        figures,
-    };
+    let mut reached = began(book.figures);
     while reached.at < file.len() {
         let ends = minute_ends(reached, file, &opening, &position, &cost, &volume, &cash);
         let traded = trades(

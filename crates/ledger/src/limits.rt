@@ -4,8 +4,7 @@ ghost use Prim.Native.Nat.{_≤_};
 ghost use Rattle.funding.specs.Minute.{weightedLimit};
 ghost use Rattle.ledger.specs.Columns.{accounts, countAt, allBelow, sumBelow};
 ghost use Rattle.ledger.specs.Day.{twoSided};
-ghost use Rattle.ledger.specs.Inner.{bookOf};
-ghost use Rattle.ledger.specs.Limits.{noneOrPrice, noneOrTicked, within, uncrossed, marketHolds, minuteHolds, minutesHold, pricesHold, fixHolds, finalHolds, dayHolds, figuresHold, accountHolds, accountOf, withinLimits};
+ghost use Rattle.ledger.specs.Limits.{noneOrPrice, noneOrTicked, within, uncrossed, marketHolds, minuteHolds, minutesHold, pricesHold, fixHolds, finalHolds, dayHolds, figuresHold, accountHolds, accountAt, withinLimits};
 use crate::ACCOUNTS;
 use crate::Book;
 use crate::DAY_LENGTH;
@@ -159,17 +158,16 @@ fn account_holds(closed: u32, opening: i64, position: i64, cost: i64, v: u32, ca
 
 // The columns are lent, so that a test of the book copies none of them.
 fn accounts_hold(
-    figures: Figures,
+    closed: u32,
     opening: &[i64; ACCOUNTS],
     position: &[i64; ACCOUNTS],
     cost: &[i64; ACCOUNTS],
     volume: &[u32; ACCOUNTS],
     cash: &[i64; ACCOUNTS],
 ) -> bool
-    requires { ⌜ figures .closed ≤ 2600 ⌝ }
-    ensures { λ r. ⌜ r ≡ allBelow accounts (accountOf (bookOf figures (now (opening .entry)) (now (position .entry)) (now (cost .entry)) (now (volume .entry)) (now (cash .entry)))) ⌝ }
+    requires { ⌜ closed ≤ 2600 ⌝ }
+    ensures { λ r. ⌜ r ≡ allBelow accounts (accountAt closed (now (opening .entry)) (now (position .entry)) (now (cost .entry)) (now (volume .entry)) (now (cash .entry))) ⌝ }
 {
-    let closed = figures.closed;
     let mut i: usize = 0;
     while i < ACCOUNTS {
         let v = volume[i];
@@ -200,14 +198,20 @@ impl Book {
         ensures { λ r. ⌜ r ≡ withinLimits accounts self ⌝ }
     {
         if self.figures.holds() {
-            let figures = self.figures;
             let opening = self.opening;
             let position = self.position;
             let cost = self.cost;
             let volume = self.volume;
             let cash = self.cash;
-            let hold = accounts_hold(figures, &opening, &position, &cost, &volume, &cash);
-            hold & final_holds(figures.day.traded, volume_of(volume))
+            let hold = accounts_hold(
+                self.figures.closed,
+                &opening,
+                &position,
+                &cost,
+                &volume,
+                &cash,
+            );
+            hold & final_holds(self.figures.day.traded, volume_of(volume))
         } else {
             false
         }

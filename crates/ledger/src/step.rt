@@ -58,9 +58,8 @@ impl Book {
         let mut cost = self.cost;
         let mut volume = self.volume;
         let mut cash = self.cash;
-        let figures = self.figures;
         let outcome = step_on(
-            figures,
+            self.figures,
             &mut opening,
             &mut position,
             &mut cost,

@@ -1,12 +1,16 @@
 -- `host::run` meets its contract. The loop's invariant is `Running`; the measure is what is left of the file. Assumes nothing.
-use mathlib.Core.Path.{_∙_}
+use mathlib.Core.Path.{_∙_, ap}
 use Prim.Native.Nat.{_-_, _≤_}
 use native.Mathlib.Omega.{arith}
 use lib.ListN as lists
 use borrow.Author.Needs.{needs}
 use Rattle.dayfile.proofs.Reading.{at-end}
 use Rattle.dayfile.proofs.Calls.{calls-at-end}
+use Rattle.dayfile.specs.Calls.{callsOf}
+use Rattle.ledger.specs.declared.Book.{Book}
+use Rattle.host.specs.declared.Reached.{Reached}
 use Rattle.host.specs.Running.{Running}
+use Rattle.host.specs.Run.{ranOver}
 use Rattle.host.proofs.Running.{begins, ends, joined}
 use Rattle.ledger.specs.Inner.{bookOf}
 use Rattle.host.proofs.run.Statement.{statement}
@@ -22,8 +26,17 @@ abbrev μ-loop : tie.MeasureT-loop
 abbrev start : tie.At-loop Inv-loop μ-loop → tie.Start Inv-loop μ-loop
 start l = l .before .before .before .before .before .before .before .before
 
+-- the book that the run begins with
+abbrev first : tie.At-loop Inv-loop μ-loop → Book
+first l = let b = start l .args .book in bookOf (l .before .began .result .figures) (b .opening) (b .position) (b .cost) (b .volume) (b .cash)
+
+began-requires : tie.Need-began-requires Inv-loop μ-loop
+began-requires c κs = search needs
+
 loop-holds : tie.Need-loop-holds Inv-loop μ-loop
-loop-holds c = let s = c .before .before .before .before .before .before .before in begins (record { within = s .pre; inside = omega arith; fewer = omega arith })
+loop-holds c =
+    let s = c .before .before .before .before .before .before .before in
+    rw (c .began .ensures) (begins (record { within = s .pre; inside = omega arith; fewer = omega arith }))
 
 minute-ends-requires : tie.Need-minute-ends-requires Inv-loop μ-loop
 minute-ends-requires c κs = c .before .before .before .before .before .before .before .loop .inv .ready
@@ -36,8 +49,8 @@ abbrev turn : tie.After-trades Inv-loop μ-loop → tie.At-loop Inv-loop μ-loop
 turn c = c .before .before .before .before .before .before .before .before .before .before .before .before .before .before
 
 -- what has come of the run after the minute ends and the trades
-came : (c : tie.After-trades Inv-loop μ-loop) → let l = turn c .loop in let s = start (turn c) in let t = c .trades in
-    Running (s .args .file .now) (s .args .book) 0 0 (bookOf (t .result .figures) (l .opening) (t .last .1 .1 .1 .0) (t .last .1 .1 .1 .1 .0) (t .last .1 .1 .1 .1 .1 .0) (l .cash)) (t .result .accepted) (t .result .at)
+came : (c : tie.After-trades Inv-loop μ-loop) → let l = turn c .loop in let t = c .trades in
+    Running (start (turn c) .args .file .now) (first (turn c)) 0 0 (bookOf (t .result .figures) (l .opening) (t .last .1 .1 .1 .0) (t .last .1 .1 .1 .1 .0) (t .last .1 .1 .1 .1 .1 .0) (l .cash)) (t .result .accepted) (t .result .at)
 came c = joined (turn c .loop .inv) (joined (c .before .before .before .before .before .before .minute-ends .ensures) (c .trades .ensures))
 
 -- where a minute end or a trade was played, the place is a later one
@@ -75,7 +88,9 @@ returns c =
     let l = c .before .before .before in
     let file = start l .args .file .now in
     let at = l .loop .reached .at in
+    let b = start l .args .book in
     c .ended .ensures ∙ ends (l .loop .inv) (calls-at-end file at (at-end file at (omega arith)))
+    ∙ ap (λ (r : Reached). ranOver (bookOf (r .figures) (b .opening) (b .position) (b .cost) (b .volume) (b .cash)) (callsOf file)) (l .before .began .ensures)
 
 pub run-spec : {M : Type 1} → statement M
 run-spec =
@@ -83,6 +98,7 @@ run-spec =
     (tie.spec
     Inv-loop
     μ-loop
+    began-requires
     loop-holds
     minute-ends-requires
     trades-requires

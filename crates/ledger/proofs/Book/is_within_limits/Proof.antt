@@ -17,7 +17,7 @@ holds-requires c κs = search needs
 accounts-hold-requires : tie.Need-accounts-hold-requires
 unfolding figuresHold
 accounts-hold-requires c κs =
-    let t = c .before .before .before .before .before .before .before .before .before .before .before in
+    let t = c .before .before .before .before .before .before .before .before .before .before in
     let f = t .before .before .args .self .figures in
     let h : figuresHold f ≡ true = sym (t .before .holds .ensures) ∙ t .if1 .taken in
     leb-true (f .closed) 2600 (each (isSize (f .size)) (leb (f .closed) 2600 ∷ noneOrPrice (f .previous .price) ∷ noneOrPrice (f .previous .index) ∷ dayHolds (f .day) ∷ []) h 1)
@@ -32,7 +32,7 @@ returns : tie.Need-returns
 unfolding withinLimits
 returns c =
     let a = c .before .before in
-    let t = a .before .before .before .before .before .before .before .before .before .before .before .before in
+    let t = a .before .before .before .before .before .before .before .before .before .before .before in
     let h : figuresHold (t .before .before .args .self .figures) ≡ true = sym (t .before .holds .ensures) ∙ t .if1 .taken in
     rw (h, a .accounts-hold .ensures, c .final-holds .ensures, c .before .volume-of .ensures)
 

@@ -29,7 +29,7 @@ returns c =
 
 step-on-requires : tie.Need-step-on-requires
 step-on-requires c κs =
-    let e = c .before .before .before .before .before .before .before .before .before .before .before in
+    let e = c .before .before .before .before .before .before .before .before .before .before in
     let s = e .before .before in
     record { shaped = shaped s; within = sym (e .before .is-within-limits .ensures) ∙ not-false (e .before .is-within-limits .result) (e .if1 .left) }
 

@@ -1,6 +1,6 @@
 -- `ledger::limits::accounts_hold` meets its contract. The loop's invariant: the accounts passed hold. Assumes nothing.
 use mathlib.Core.Path.{_≡_, sym, _∙_, ap}
-use mathlib.Core.Bool.{true}
+use mathlib.Core.Bool.{Bool, true}
 use Prim.Native.Nat.{ℕ, _-_, _<_, _≤_}
 use native.Mathlib.Numerals.{add-one}
 use native.Mathlib.Omega.{arith}
@@ -8,10 +8,8 @@ use lib.IntN.{ℤ}
 use borrow.Author.Tests.{not-true, not-false}
 use borrow.Author.Needs.{needs}
 use Rattle.integers.proofs.Machine.{read-back}
-use Rattle.ledger.specs.declared.Book.{Book}
 use Rattle.ledger.specs.Columns.{entry, countAt, allBelow}
-use Rattle.ledger.specs.Limits.{accountHolds, accountOf}
-use Rattle.ledger.specs.Inner.{bookOf}
+use Rattle.ledger.specs.Limits.{accountHolds, accountAt}
 use Rattle.ledger.proofs.Tests.{_and_}
 use Rattle.ledger.proofs.Columns.{allBelow-zero, allBelow-suc, all-not}
 use Rattle.ledger.proofs.limits.accounts_hold.Statement.{statement}
@@ -21,28 +19,27 @@ same : (closed v : ℕ) {o o′ p p′ c c′ m m′ : ℤ} → o ≡ o′ → p
 same closed v e f g h = rw (e, f, g, h)
 
 abbrev Inv-loop : tie.InvT-loop
-Inv-loop opening position cost volume cash closed i₀ i =
-    (i ≤ 256) × (allBelow i (λ j. accountHolds closed (entry opening j) (entry position j) (entry cost j) (countAt volume j) (entry cash j)) ≡ true)
+Inv-loop closed opening position cost volume cash i₀ i = (i ≤ 256) × (allBelow i (accountAt closed opening position cost volume cash) ≡ true)
 
 abbrev μ-loop : tie.MeasureT-loop
-μ-loop opening position cost volume cash closed i₀ i = 256 - i
+μ-loop closed opening position cost volume cash i₀ i = 256 - i
 
--- the book whose columns are lent
-abbrev bookAt : tie.Start Inv-loop μ-loop → Book
-bookAt s = let a = s .args in bookOf (a .figures) (a .opening .now) (a .position .now) (a .cost .now) (a .volume .now) (a .cash .now)
+-- an account of the lent columns
+abbrev account : tie.Start Inv-loop μ-loop → ℕ → Bool
+account s = let a = s .args in accountAt (a .closed) (a .opening .now) (a .position .now) (a .cost .now) (a .volume .now) (a .cash .now)
 
 -- the account's test
-tested : (c : tie.After-account-holds Inv-loop μ-loop) → let l = c .before .before .before .before .before .before .before in c .account-holds .result ≡ accountOf (bookAt (l .before)) (l .loop .i)
+tested : (c : tie.After-account-holds Inv-loop μ-loop) → let l = c .before .before .before .before .before .before .before in c .account-holds .result ≡ account (l .before) (l .loop .i)
 tested c =
     let l = c .before .before .before .before .before .before .before in
-    let b = bookAt (l .before) in
+    let a = l .before .args in
     let i = l .loop .i in
     c .account-holds .ensures
-    ∙ same (b .figures .closed) (countAt (b .volume) i)
-    (read-back (entry (b .opening) i) (c .before .before .before .before .account-holds-arg .given))
-    (read-back (entry (b .position) i) (c .before .before .before .account-holds-arg2 .given))
-    (read-back (entry (b .cost) i) (c .before .before .account-holds-arg3 .given))
-    (read-back (entry (b .cash) i) (c .before .account-holds-arg4 .given))
+    ∙ same (a .closed) (countAt (a .volume .now) i)
+    (read-back (entry (a .opening .now) i) (c .before .before .before .before .account-holds-arg .given))
+    (read-back (entry (a .position .now) i) (c .before .before .before .account-holds-arg2 .given))
+    (read-back (entry (a .cost .now) i) (c .before .before .account-holds-arg3 .given))
+    (read-back (entry (a .cash .now) i) (c .before .account-holds-arg4 .given))
 
 loop-holds : tie.Need-loop-holds Inv-loop μ-loop
 loop-holds c = (search needs, rw allBelow-zero)
@@ -86,7 +83,7 @@ returns c =
     let l = c .before .before .before .before .before .before .before .before in
     let i = l .loop .i in
     let h : i < 256 = search needs in
-    sym (all-not 256 (accountOf (bookAt (l .before))) i h (sym (tested (c .before)) ∙ not-true (c .before .account-holds .result) (c .if1 .taken)))
+    sym (all-not 256 (account (l .before)) i h (sym (tested (c .before)) ∙ not-true (c .before .account-holds .result) (c .if1 .taken)))
 
 add-i : tie.Need-add-i Inv-loop μ-loop
 add-i c = search needs
@@ -97,10 +94,10 @@ loop-less c = search needs
 loop-again : tie.Need-loop-again Inv-loop μ-loop
 loop-again c =
     let l = c .before .before .before .before .before .before .before .before in
-    let b = bookAt (l .before) in
+    let p = account (l .before) in
     let i = l .loop .i in
-    let h : accountOf b i ≡ true = sym (tested (c .before)) ∙ not-false (c .before .account-holds .result) (c .if1 .left) in
-    (search needs, ap (λ (n : ℕ). allBelow n (accountOf b)) (add-one i) ∙ allBelow-suc i (accountOf b) ∙ (l .loop .inv .1 and h))
+    let h : p i ≡ true = sym (tested (c .before)) ∙ not-false (c .before .account-holds .result) (c .if1 .left) in
+    (search needs, ap (λ (n : ℕ). allBelow n p) (add-one i) ∙ allBelow-suc i p ∙ (l .loop .inv .1 and h))
 
 returns-2 : tie.Need-returns-2 Inv-loop μ-loop
 returns-2 c = let e : c .before .loop .i ≡ 256 = omega arith in sym (rw e at (c .before .loop .inv .1))

@@ -1,8 +1,8 @@
--- `host::shown::is_shown` meets its contract. Assumes nothing.
+-- `printout::is_shown` meets its contract. Assumes nothing.
 use mir.Facts.{toZ-ofZ}
 use borrow.Author.Needs.{needs}
-use Rattle.host.proofs.shown.is_shown.Statement.{statement}
-use Rattle.host.proofs.shown.is_shown.Tie as tie
+use Rattle.printout.proofs.is_shown.Statement.{statement}
+use Rattle.printout.proofs.is_shown.Tie as tie
 
 magnitude-requires : tie.Need-magnitude-requires
 magnitude-requires c κs = search needs

@@ -1,7 +1,7 @@
 // What the bench prints, as a value for each record: the program is left with writing its digits.
 ghost use mathlib.Core.Path.{_≡_};
 ghost use Rattle.ledger.specs.Step.{step};
-ghost use Rattle.host.specs.Shown.{openingShown, shownOf, played, playedRecord, isShown};
+ghost use Rattle.printout.specs.Shown.{openingShown, shownOf, played, playedRecord, isShown};
 use dayfile::Read;
 use ledger::Answer;
 use ledger::Book;

@@ -11,9 +11,9 @@ use Rattle.ledger.specs.Columns.{accounts}
 use Rattle.ledger.specs.Step.{step}
 use Rattle.dayfile.specs.declared.Read.{Read}
 use Rattle.dayfile.specs.declared.Read.the-variants as read
-use Rattle.host.specs.declared.shown.Shown.{Shown}
-use Rattle.host.specs.declared.shown.Shown.the-variants as shown
-use Rattle.host.specs.declared.shown.Played.{Played}
+use Rattle.printout.specs.declared.Shown.{Shown}
+use Rattle.printout.specs.declared.Shown.the-variants as shown
+use Rattle.printout.specs.declared.Played.{Played}
 
 -- 01: "A refused size prints `refused 5 record 0`"
 abbrev pub openingShown : Answer → Shown

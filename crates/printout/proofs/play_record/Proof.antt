@@ -1,7 +1,7 @@
--- `host::shown::play_record` meets its contract, for each thing that may be read. Assumes nothing.
+-- `printout::play_record` meets its contract, for each thing that may be read. Assumes nothing.
 use borrow.Author.Needs.{needs}
-use Rattle.host.proofs.shown.play_record.Statement.{statement}
-use Rattle.host.proofs.shown.play_record.Tie as tie
+use Rattle.printout.proofs.play_record.Statement.{statement}
+use Rattle.printout.proofs.play_record.Tie as tie
 
 enum-told : tie.Need-enum-told
 enum-told c = search needs

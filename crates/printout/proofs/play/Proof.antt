@@ -1,7 +1,7 @@
--- `host::shown::play` meets its contract. Assumes nothing.
+-- `printout::play` meets its contract. Assumes nothing.
 use borrow.Author.Needs.{needs}
-use Rattle.host.proofs.shown.play.Statement.{statement}
-use Rattle.host.proofs.shown.play.Tie as tie
+use Rattle.printout.proofs.play.Statement.{statement}
+use Rattle.printout.proofs.play.Tie as tie
 
 step-requires : tie.Need-step-requires
 step-requires c κs = search needs

@@ -1,7 +1,7 @@
--- `host::shown::shown_opening` meets its contract. Assumes nothing.
+-- `printout::shown_opening` meets its contract. Assumes nothing.
 use borrow.Author.Tests.{ne-eqb}
-use Rattle.host.proofs.shown.shown_opening.Statement.{statement}
-use Rattle.host.proofs.shown.shown_opening.Tie as tie
+use Rattle.printout.proofs.shown_opening.Statement.{statement}
+use Rattle.printout.proofs.shown_opening.Tie as tie
 
 returns : tie.Need-returns
 returns c = rw (ne-eqb _ _ (c .if1 .taken))

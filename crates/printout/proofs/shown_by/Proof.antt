@@ -1,8 +1,8 @@
--- `host::shown::shown_by` meets its contract, call by call. Assumes nothing.
+-- `printout::shown_by` meets its contract, call by call. Assumes nothing.
 use borrow.Author.Tests.{ne-eqb}
 use borrow.Author.Needs.{needs}
-use Rattle.host.proofs.shown.shown_by.Statement.{statement}
-use Rattle.host.proofs.shown.shown_by.Tie as tie
+use Rattle.printout.proofs.shown_by.Statement.{statement}
+use Rattle.printout.proofs.shown_by.Tie as tie
 
 returns : tie.Need-returns
 returns c = rw (ne-eqb _ _ (c .if1 .taken))
