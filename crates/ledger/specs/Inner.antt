@@ -81,6 +81,10 @@ pub record Countable (l : List ℕ) (t : Trade) : Type 0 where
   pub buyer : countAt l (t .buyer) ≤ 2000000
   pub seller : countAt l (t .seller) ≤ 2000000
 
+-- every account's v is within its limit
+abbrev pub VolumesWithin : List ℕ → Type 0
+VolumesWithin l = (j : ℕ) → j < accounts → countAt l j ≤ 2000000
+
 pub record Tradable (f : Figures) (position cost : List ℤ) (volume : List ℕ) (t : Trade) : Type 0 where
   pub positions : Exchangeable position t 1200000
   pub costs : Exchangeable cost t 100000000000000

@@ -4,6 +4,7 @@ ghost use Prim.Native.Nat.{_≤_};
 ghost use Rattle.funding.specs.Minute.{weightedLimit};
 ghost use Rattle.ledger.specs.Columns.{accounts, countAt, allBelow, sumBelow};
 ghost use Rattle.ledger.specs.Day.{twoSided};
+ghost use Rattle.ledger.specs.Inner.{bookOf, VolumesWithin};
 ghost use Rattle.ledger.specs.Limits.{noneOrPrice, noneOrTicked, within, uncrossed, marketHolds, minuteHolds, minutesHold, pricesHold, fixHolds, finalHolds, dayHolds, figuresHold, accountHolds, accountAt, withinLimits};
 use crate::ACCOUNTS;
 use crate::Book;
@@ -179,9 +180,11 @@ fn accounts_hold(
     true
 }
 
-// The contracts that all accounts bought plus sold today.
-fn volume_of(volume: [u32; ACCOUNTS]) -> u64
-    ensures { λ r. ⌜ r ≡ sumBelow accounts (countAt volume) ⌝ }
+// The contracts that all accounts bought plus sold today. Each account's within its limit is asked: of a lent number its width
+// is not known.
+fn volume_of(volume: &[u32; ACCOUNTS]) -> u64
+    requires { ⌜ VolumesWithin (now volume) ⌝ }
+    ensures { λ r. ⌜ r ≡ sumBelow accounts (countAt (now (volume .entry))) ⌝ }
 {
     let mut sum: u64 = 0;
     let mut i: usize = 0;
@@ -192,28 +195,36 @@ fn volume_of(volume: [u32; ACCOUNTS]) -> u64
     sum
 }
 
+// Whether a book with these figures and columns is within its limits.
+pub fn limits_hold(
+    figures: Figures,
+    opening: &[i64; ACCOUNTS],
+    position: &[i64; ACCOUNTS],
+    cost: &[i64; ACCOUNTS],
+    volume: &[u32; ACCOUNTS],
+    cash: &[i64; ACCOUNTS],
+) -> bool
+    ensures { λ r. ⌜ r ≡ withinLimits accounts (bookOf figures (now (opening .entry)) (now (position .entry)) (now (cost .entry)) (now (volume .entry)) (now (cash .entry))) ⌝ }
+{
+    if !figures.holds() {
+        return false;
+    }
+    if !accounts_hold(figures.closed, opening, position, cost, volume, cash) {
+        return false;
+    }
+    final_holds(figures.day.traded, volume_of(volume))
+}
+
 impl Book {
     // Whether the book is within its limits.
     pub fn is_within_limits(self) -> bool
         ensures { λ r. ⌜ r ≡ withinLimits accounts self ⌝ }
     {
-        if self.figures.holds() {
-            let opening = self.opening;
-            let position = self.position;
-            let cost = self.cost;
-            let volume = self.volume;
-            let cash = self.cash;
-            let hold = accounts_hold(
-                self.figures.closed,
-                &opening,
-                &position,
-                &cost,
-                &volume,
-                &cash,
-            );
-            hold & final_holds(self.figures.day.traded, volume_of(volume))
-        } else {
-            false
-        }
+        let opening = self.opening;
+        let position = self.position;
+        let cost = self.cost;
+        let volume = self.volume;
+        let cash = self.cash;
+        limits_hold(self.figures, &opening, &position, &cost, &volume, &cash)
     }
 }

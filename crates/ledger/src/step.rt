@@ -13,6 +13,7 @@ use crate::Market;
 use crate::Outcome;
 use crate::Trade;
 use crate::close::close_on;
+use crate::limits::limits_hold;
 use crate::trading::trade_on;
 
 // The inner layer: a call on the figures by value and the lent columns of a book within its limits. A run uses it, so that it
@@ -46,18 +47,18 @@ impl Book {
     pub fn step(self, call: Call) -> Answer
         ensures { λ r. ⌜ r ≡ Step·step accounts self call ⌝ }
     {
-        if !self.is_within_limits() {
+        let mut opening = self.opening;
+        let mut position = self.position;
+        let mut cost = self.cost;
+        let mut volume = self.volume;
+        let mut cash = self.cash;
+        if !limits_hold(self.figures, &opening, &position, &cost, &volume, &cash) {
             return Answer {
                 code: 2,
                 fixing: Fixing::none(),
                 book: self,
             };
         }
-        let mut opening = self.opening;
-        let mut position = self.position;
-        let mut cost = self.cost;
-        let mut volume = self.volume;
-        let mut cash = self.cash;
         let outcome = step_on(
             self.figures,
             &mut opening,

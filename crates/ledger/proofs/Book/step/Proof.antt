@@ -11,11 +11,14 @@ use Rattle.ledger.specs.Step.{step}
 use Rattle.ledger.proofs.Book.step.Statement.{statement}
 use Rattle.ledger.proofs.Book.step.Tie as tie
 
+abbrev start : tie.After-limits-hold → tie.Start
+start w = w .before .before .before .before .before .before .before .before .before .before .before
+
 shaped : (s : tie.Start) → Shaped accounts (s .args .self)
 shaped s = record { opening = search needs; position = search needs; cost = search needs; volume = search needs; cash = search needs }
 
-is-within-limits-requires : tie.Need-is-within-limits-requires
-is-within-limits-requires c κs = search needs
+limits-hold-requires : tie.Need-limits-hold-requires
+limits-hold-requires c κs = search needs
 
 none-requires : tie.Need-none-requires
 none-requires c κs = search needs
@@ -23,15 +26,15 @@ none-requires c κs = search needs
 returns : tie.Need-returns
 unfolding step refusal
 returns c =
-    let t = c .before in
-    let h : withinLimits accounts (t .before .before .args .self) ≡ false = sym (t .before .is-within-limits .ensures) ∙ not-true (t .before .is-within-limits .result) (t .if1 .taken) in
+    let w = c .before .before in
+    let h : withinLimits accounts (start w .args .self) ≡ false = sym (w .limits-hold .ensures) ∙ not-true (w .limits-hold .result) (c .before .if1 .taken) in
     rw (c .none .ensures, h)
 
 step-on-requires : tie.Need-step-on-requires
 step-on-requires c κs =
-    let e = c .before .before .before .before .before .before .before .before .before .before in
-    let s = e .before .before in
-    record { shaped = shaped s; within = sym (e .before .is-within-limits .ensures) ∙ not-false (e .before .is-within-limits .result) (e .if1 .left) }
+    let e = c .before .before .before .before .before in
+    let w = e .before in
+    record { shaped = shaped (start w); within = sym (w .limits-hold .ensures) ∙ not-false (w .limits-hold .result) (e .if1 .left) }
 
 returns-2 : tie.Need-returns-2
 returns-2 c = c .before .before .step-on .ensures
@@ -40,7 +43,7 @@ pub step-spec : {M : Type 1} → statement M
 step-spec =
     tie.close
     (tie.spec
-    is-within-limits-requires
+    limits-hold-requires
     none-requires
     returns
     step-on-requires
