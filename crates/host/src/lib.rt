@@ -45,6 +45,7 @@ struct Reached {
     figures: Figures,
 }
 
+// Where a run with these figures begins.
 fn began(figures: Figures) -> Reached
     ensures { λ r. ⌜ r ≡ record { accepted = 0; at = 0; figures = figures } ⌝ }
 {
@@ -55,6 +56,7 @@ fn began(figures: Figures) -> Reached
     }
 }
 
+// Where a run that came to this ended, with these columns.
 fn ended(
     reached: Reached,
     opening: [i64; ACCOUNTS],

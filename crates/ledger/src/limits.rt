@@ -130,6 +130,7 @@ impl Figures {
     }
 }
 
+// A position's limit is a fixed number, so that the machine makes both comparisons in one.
 fn position_holds(position: i64) -> bool
     ensures { λ r. ⌜ r ≡ within position 1200000 ⌝ }
 {
@@ -157,7 +158,7 @@ fn account_holds(closed: u32, opening: i64, position: i64, cost: i64, v: u32, ca
     is_within(cash, closed as u64 * MOST_POSTING)
 }
 
-// The columns are lent, so that a test of the book copies none of them.
+// Whether every account is within its limits, up to the first that is not.
 fn accounts_hold(
     closed: u32,
     opening: &[i64; ACCOUNTS],
@@ -180,8 +181,8 @@ fn accounts_hold(
     true
 }
 
-// The contracts that all accounts bought plus sold today. Each account's within its limit is asked: of a lent number its width
-// is not known.
+// The contracts that all accounts bought plus sold today. Each account's v within its limit is asked, so that the sum fits: the
+// logic doesn't hand out the width of a lent number.
 fn volume_of(volume: &[u32; ACCOUNTS]) -> u64
     requires { ⌜ VolumesWithin (now volume) ⌝ }
     ensures { λ r. ⌜ r ≡ sumBelow accounts (countAt (now (volume .entry))) ⌝ }
@@ -195,7 +196,7 @@ fn volume_of(volume: &[u32; ACCOUNTS]) -> u64
     sum
 }
 
-// Whether a book with these figures and columns is within its limits.
+// Whether a book with these figures and columns is within its limits. The columns are lent, so that the test copies none.
 pub fn limits_hold(
     figures: Figures,
     opening: &[i64; ACCOUNTS],
