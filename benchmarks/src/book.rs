@@ -99,11 +99,14 @@ impl Market {
 
 impl Trade {
     fn is_in_field(self) -> bool {
-        let smallest = if self.kind == 2 { LEAST_BLOCK } else { 1 };
-        self.kind <= 2
-            && (smallest..=MOST_QUANTITY).contains(&self.quantity)
+        (1..=MOST_QUANTITY).contains(&self.quantity)
             && is_price(self.price)
-            && (self.kind != 0 || self.price.is_multiple_of(TICK))
+            && match self.kind {
+                0 => self.price.is_multiple_of(TICK),
+                1 => true,
+                2 => LEAST_BLOCK <= self.quantity,
+                _ => false,
+            }
     }
 }
 

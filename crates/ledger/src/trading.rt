@@ -24,12 +24,16 @@ impl Trade {
     fn is_outside(self) -> bool
         ensures { λ r. ⌜ r ≡ tradeOutside self ⌝ }
     {
-        (2 < self.kind)
-            | (self.quantity == 0)
-            | (MOST_QUANTITY < self.quantity)
-            | ((self.kind == 2) & (self.quantity < LEAST_BLOCK))
-            | !funding::is_price(self.price)
-            | ((self.kind == 0) & !funding::is_ticked(self.price))
+        if (self.quantity == 0) | (MOST_QUANTITY < self.quantity) {
+            return true;
+        }
+        if !funding::is_price(self.price) {
+            return true;
+        }
+        if self.kind == 0 {
+            return !funding::is_ticked(self.price);
+        }
+        (2 < self.kind) | ((self.kind == 2) & (self.quantity < LEAST_BLOCK))
     }
 
     // What the v of each of its accounts rises by: both sides where they are one account.
@@ -173,8 +177,8 @@ pub fn trade_on(
     }
     let quantity = t.quantity as u64;
     exchange(position, t, quantity);
-    exchange(cost, t, quantity * t.price as u64);
     count(volume, t);
+    exchange(cost, t, quantity * t.price as u64);
     let mut after = figures;
     after.day = figures.day.traded(t);
     after.accepted()

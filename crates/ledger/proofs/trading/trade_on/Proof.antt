@@ -47,17 +47,17 @@ cast-quantity c = search needs
 exchange-requires : tie.Need-exchange-requires
 exchange-requires c κs = search needs
 
+count-requires : tie.Need-count-requires
+count-requires c κs = (c .before .before .before .before .before .before .before .before .pre .volumes, fields (c .before .before .before .before) .quantity)
+
 cast-exchange : tie.Need-cast-exchange
 cast-exchange c = search needs
 
 mul-exchange : tie.Need-mul-exchange
-mul-exchange c = omega (arith, product-most (c .before .before .before .before .before))
+mul-exchange c = omega (arith, product-most (c .before .before .before .before .before .before .before))
 
 exchange-requires-2 : tie.Need-exchange-requires-2
-exchange-requires-2 c κs = (c .before .before .before .before .before .before .before .before .before .pre .costs, product-most (c .before .before .before .before .before))
-
-count-requires : tie.Need-count-requires
-count-requires c κs = (c .before .before .before .before .before .before .before .before .before .before .before .pre .volumes, fields (c .before .before .before .before .before .before .before) .quantity)
+exchange-requires-2 c κs = (c .before .before .before .before .before .before .before .before .before .before .before .pre .costs, product-most (c .before .before .before .before .before .before .before))
 
 traded-requires : tie.Need-traded-requires
 traded-requires c κs =
@@ -75,7 +75,7 @@ returns-2 c =
     let a = e .before .before .before .before .args in
     λ opening cash.
     accepted-answer accounts (bookOf (a .figures) opening (a .position .now) (a .cost .now) (a .volume .now) cash) (call.Trade (a .t)) (e .before .trade-code .ensures) (e .if1 .left)
-    (rw (c .accepted .ensures, c .before .traded .ensures, c .before .before .count .ensures, c .before .before .before .before .exchange2 .ensures, c .before .before .before .before .before .before .before .exchange .ensures))
+    (rw (c .accepted .ensures, c .before .traded .ensures, c .before .before .exchange2 .ensures, c .before .before .before .before .before .count .ensures, c .before .before .before .before .before .before .before .exchange .ensures))
 
 pub trade-on-spec : {M : Type 1} → statement M
 trade-on-spec =
@@ -86,10 +86,10 @@ trade-on-spec =
     returns
     cast-quantity
     exchange-requires
+    count-requires
     cast-exchange
     mul-exchange
     exchange-requires-2
-    count-requires
     traded-requires
     accepted-requires
     returns-2)
