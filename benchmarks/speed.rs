@@ -1,5 +1,5 @@
-//! Times the proved library and the Rust ledger on the same files, and a trade by value against a
-//! copy of the book: see benchmarks/run.
+//! Times the proved library and the Rust ledger on the same files, each in processes of its own by
+//! turns, and a trade by value against a copy of the book: see benchmarks/run.
 
 use benchmarks::inputs::{self, Input};
 use benchmarks::ACCOUNTS;
@@ -10,12 +10,19 @@ use std::time::{Duration, Instant};
 
 /// A round takes about this long, or one run of a long file: short, so that some go undisturbed.
 const ROUND: Duration = Duration::from_millis(2);
-/// How long the rounds of a file take together.
-const ROUNDS: Duration = Duration::from_secs(4);
+/// How long the rounds of one process take together.
+const ROUNDS: Duration = Duration::from_millis(700);
+/// The processes of each side for a file. Where a process lies in memory moves its times by some
+/// hundredths, so that the best of several counts.
+const PROCESSES: usize = 6;
 /// The bytes of a book: its figures, and for each account four columns of eight bytes and one of four.
 const BOOK: usize = 96 + ACCOUNTS * (4 * 8 + 4);
 /// The trades of one run of trade-bench.
 const TRADES: u32 = 1_000_000;
+
+/// The first argument of a process that times one side.
+const LIBRARY: &str = "library";
+const RUST: &str = "rust";
 
 type Run = fn(u8, &[u8], &mut [i64], &mut [i64]) -> u64;
 
@@ -97,19 +104,37 @@ fn time(run: Run, input: &Input, repeats: u32) -> Duration {
     processor_time() - start
 }
 
-/// The best rounds of both in nanoseconds a record. They take turns.
-fn best(input: &Input) -> (f64, f64) {
-    let once = time(library, input, 1).max(Duration::from_micros(1));
+/// The best round of a side, in nanoseconds a record.
+fn best_round(run: Run, input: &Input) -> f64 {
+    let once = time(run, input, 1).max(Duration::from_micros(1));
     let repeats = (ROUND.as_nanos() / once.as_nanos()).max(1) as u32;
-    let (mut proved, mut plain) = (Duration::MAX, Duration::MAX);
+    let mut best = Duration::MAX;
     let start = Instant::now();
     while start.elapsed() < ROUNDS {
-        proved = proved.min(time(library, input, repeats));
-        plain = plain.min(time(benchmarks::run, input, repeats));
+        best = best.min(time(run, input, repeats));
     }
-    let records = input.records as f64 * f64::from(repeats);
-    let per_record = |time: Duration| time.as_nanos() as f64 / records;
-    (per_record(proved), per_record(plain))
+    best.as_nanos() as f64 / (input.records as f64 * f64::from(repeats))
+}
+
+/// The best round of a process of its own.
+fn process(side: &str, place: usize) -> f64 {
+    let program = std::env::current_exe().expect("this program has a path");
+    let output = Command::new(program)
+        .args([side, &place.to_string()])
+        .output()
+        .expect("this program runs");
+    let text = String::from_utf8(output.stdout).expect("it prints a number");
+    text.trim().parse().expect("it prints a number")
+}
+
+/// The best processes of both sides, in nanoseconds a record. They take turns.
+fn best(place: usize) -> (f64, f64) {
+    let (mut proved, mut plain) = (f64::MAX, f64::MAX);
+    for _ in 0..PROCESSES {
+        proved = proved.min(process(LIBRARY, place));
+        plain = plain.min(process(RUST, place));
+    }
+    (proved, plain)
 }
 
 /// The best round of copies of a book, in nanoseconds each.
@@ -130,8 +155,7 @@ fn copy() -> f64 {
 /// The best run of the program, in nanoseconds a trade. What it takes to start is counted.
 fn trade_by_value(program: &str) -> f64 {
     let mut best = Duration::MAX;
-    let start = Instant::now();
-    while start.elapsed() < ROUNDS {
+    for _ in 0..PROCESSES {
         let round = Instant::now();
         let output = Command::new(program).output().expect("trade-bench runs");
         best = best.min(round.elapsed());
@@ -143,9 +167,9 @@ fn trade_by_value(program: &str) -> f64 {
 fn runs() {
     println!("| file | records | library, ns a record | Rust, ns a record | library / Rust |");
     println!("|---|---|---|---|---|");
-    for input in inputs::all() {
-        verify(&input);
-        let (proved, plain) = best(&input);
+    for (place, input) in inputs::all().iter().enumerate() {
+        verify(input);
+        let (proved, plain) = best(place);
         println!(
             "| {} | {} | {proved:.2} | {plain:.2} | {:.2} |",
             input.name,
@@ -155,12 +179,22 @@ fn runs() {
     }
 }
 
-fn main() {
-    let program = std::env::args().nth(1).expect("the path of trade-bench");
+fn compare(trade_bench: &str) {
     runs();
-    let (trade, copy) = (trade_by_value(&program), copy());
+    let (trade, copy) = (trade_by_value(trade_bench), copy());
     println!();
     println!("| a trade by value, ns | a copy of the book, ns | trade / copy |");
     println!("|---|---|---|");
     println!("| {trade:.0} | {copy:.0} | {:.1} |", trade / copy);
+}
+
+fn main() {
+    let arguments: Vec<String> = std::env::args().skip(1).collect();
+    let input = |place: &str| inputs::all().swap_remove(place.parse().expect("a file's place"));
+    match arguments.iter().map(String::as_str).collect::<Vec<_>>()[..] {
+        [LIBRARY, place] => println!("{}", best_round(library, &input(place))),
+        [RUST, place] => println!("{}", best_round(benchmarks::run, &input(place))),
+        [trade_bench] => compare(trade_bench),
+        _ => panic!("expected the path of trade-bench"),
+    }
 }
