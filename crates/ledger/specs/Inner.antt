@@ -20,12 +20,16 @@ use Rattle.ledger.specs.Day.{minuteOf}
 use Rattle.ledger.specs.Opening.{noFixing}
 use Rattle.ledger.specs.Effects.{figuresAfter, fixingOf}
 use Rattle.ledger.specs.Refusals.{orElse, notAllowed, haltForbids, outsideField, crossed, volumeStays, positionStays, unpriced, refusalWithin}
-use Rattle.ledger.specs.Limits.{figuresHold, withinLimits}
+use Rattle.ledger.specs.Limits.{figuresHold, accountHolds, withinLimits}
 use Rattle.ledger.specs.Step.{answer}
 use Rattle.ledger.specs.Keeping.{Shaped}
 
 abbrev pub bookOf : Figures → List ℤ → List ℤ → List ℤ → List ℕ → List ℤ → Book
 bookOf f opening position cost volume cash = record { figures = f; opening = opening; position = position; cost = cost; volume = volume; cash = cash }
+
+-- whether account j is within its limits, after so many closed days and with these columns
+abbrev pub accountAt : ℕ → List ℤ → List ℤ → List ℤ → List ℕ → List ℤ → ℕ → Bool
+accountAt closed opening position cost volume cash j = accountHolds closed (entry opening j) (entry position j) (entry cost j) (countAt volume j) (entry cash j)
 
 abbrev pub answerOf : Outcome → List ℤ → List ℤ → List ℤ → List ℕ → List ℤ → Answer
 answerOf r opening position cost volume cash = record { code = r .code; fixing = r .fixing; book = bookOf (r .figures) opening position cost volume cash }

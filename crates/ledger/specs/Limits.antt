@@ -1,6 +1,5 @@
 -- Refusal 2: the limits on what a book holds, in document 01's order. A book is refused where one of them fails, and only then.
 use mathlib.Core.Bool.{Bool, not, _&&_, _||_}
-use mathlib.Core.List.{List}
 use Prim.Native.Nat.{ℕ, _*_}
 use lib.Dec.{leb, ltb, eqb}
 use lib.IntN.{ℤ, natAbs}
@@ -65,12 +64,8 @@ abbrev pub accountHolds : ℕ → ℤ → ℤ → ℤ → ℕ → ℤ → Bool
 accountHolds closed opening position cost v cash =
     within opening 1200000 && within position 1200000 && leb v 2000000 && within cost (v * 50000000) && within cash (closed * 2700000000000000)
 
--- account j, after so many closed days and with these columns
-abbrev pub accountAt : ℕ → List ℤ → List ℤ → List ℤ → List ℕ → List ℤ → ℕ → Bool
-accountAt closed opening position cost volume cash j = accountHolds closed (entry opening j) (entry position j) (entry cost j) (countAt volume j) (entry cash j)
-
 abbrev pub accountOf : Book → ℕ → Bool
-accountOf b = accountAt (b .figures .closed) (b .opening) (b .position) (b .cost) (b .volume) (b .cash)
+accountOf b j = accountHolds (b .figures .closed) (entry (b .opening) j) (entry (b .position) j) (entry (b .cost) j) (countAt (b .volume) j) (entry (b .cash) j)
 
 -- a book of n accounts is within its limits
 unfoldable pub withinLimits : ℕ → Book → Bool

@@ -9,7 +9,8 @@ use borrow.Author.Tests.{not-true, not-false}
 use borrow.Author.Needs.{needs}
 use Rattle.integers.proofs.Machine.{read-back}
 use Rattle.ledger.specs.Columns.{entry, countAt, allBelow}
-use Rattle.ledger.specs.Limits.{accountHolds, accountAt}
+use Rattle.ledger.specs.Limits.{accountHolds}
+use Rattle.ledger.specs.Inner.{accountAt}
 use Rattle.ledger.proofs.Tests.{_and_}
 use Rattle.ledger.proofs.Columns.{allBelow-zero, allBelow-suc, all-not}
 use Rattle.ledger.proofs.limits.accounts_hold.Statement.{statement}
