@@ -1,4 +1,4 @@
 pub mod Table
-pub mod Tests
+pub mod Prices
 pub mod Spread
 pub mod Bounds

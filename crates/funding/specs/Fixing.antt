@@ -10,7 +10,7 @@ use Rattle.integers.specs.declared.Tie.the-variants.{Even}
 use Rattle.funding.specs.declared.Terms.{Terms}
 use Rattle.funding.specs.declared.FinalMinute.{FinalMinute}
 use Rattle.funding.specs.declared.Previous.{Previous}
-use Rattle.funding.specs.Price.{isPrice, isGiven}
+use Rattle.funding.specs.Price.{isPrice, isPresent}
 
 -- 01: "Rate = half-even of S / (k(k+1)/2), or 0 when k = 0"
 abbrev pub rateOf : ℕ → ℤ → ℤ
@@ -32,10 +32,10 @@ averagePrice traded = nearest Even (traded .gross) (traded .contracts)
 abbrev pub indexPrice : ℕ → Previous → ℕ
 indexPrice index previous =
     cond
-    (isGiven index && isGiven (previous .price) && isGiven (previous .index) && isPrice (index + previous .price - previous .index))
+    (isPresent index && isPresent (previous .price) && isPresent (previous .index) && isPrice (index + previous .price - previous .index))
     (index + previous .price - previous .index)
     0
 
 -- 01: "settlement price P is the set price if given; else, when n > 0, half-even of gross / n; else" by the index; 0 where no rule gives one
 abbrev pub settlementPrice : ℕ → FinalMinute → ℕ → Previous → ℕ
-settlementPrice set traded index previous = cond (isGiven set) set (cond (isGiven (traded .contracts)) (averagePrice traded) (indexPrice index previous))
+settlementPrice set traded index previous = cond (isPresent set) set (cond (isPresent (traded .contracts)) (averagePrice traded) (indexPrice index previous))

@@ -1,5 +1,5 @@
 pub mod Price
+pub mod Terms
 pub mod Minute
 pub mod Fixing
-pub mod Terms
 pub mod Table

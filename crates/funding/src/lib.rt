@@ -3,8 +3,8 @@
 ghost use mathlib.Core.Path.{_≡_};
 ghost use Prim.Native.Nat.{_*_, _<_, _≤_, _^_};
 ghost use lib.IntN.{natAbs};
-ghost use Rattle.funding.specs.Price.{isPrice, isTicked};
-ghost use Rattle.funding.specs.Minute.{withinSpread, futuresPrice, basisOf, Accrues, accrued};
+ghost use Rattle.funding.specs.Price.{largestPrice, isPrice, isTicked, noneOrPrice, noneOrTicked};
+ghost use Rattle.funding.specs.Minute.{withinSpread, futuresPrice, basisOf, Accrues, accrued, weightedLimit, mostMinutes};
 ghost use Rattle.funding.specs.Fixing.{rateOf, clampedTo, amountOf, indexPrice, settlementPrice};
 use integers::Tie;
 
@@ -13,6 +13,10 @@ pub const LEAST_PRICE: u32 = 5_000;
 pub const LARGEST_PRICE: u32 = 50_000_000;
 
 pub const TICK: u32 = 10;
+// The minutes of the longest day.
+pub const MOST_MINUTES: u32 = 1_320;
+// What the basis of a minute may come to.
+const MOST_BASIS: u64 = 9_999_000_000_000;
 // One, as a rate.
 const NANO: i64 = 1_000_000_000;
 // A rate in nano times a size in hundredths of a coin, as a number.
@@ -50,6 +54,18 @@ pub fn is_ticked(p: u32) -> bool
     is_price(p) & (p % TICK == 0)
 }
 
+pub fn none_or_price(p: u32) -> bool
+    ensures { λ r. ⌜ r ≡ noneOrPrice p ⌝ }
+{
+    (p == 0) | is_price(p)
+}
+
+pub fn none_or_ticked(p: u32) -> bool
+    ensures { λ r. ⌜ r ≡ noneOrTicked p ⌝ }
+{
+    (p == 0) | is_ticked(p)
+}
+
 // The spread test. Sides that cross, which any two numbers may, differ by nothing.
 pub fn within_spread(bid: u32, offer: u32, terms: Terms) -> bool
     ensures { λ r. ⌜ r ≡ withinSpread terms bid offer ⌝ }
@@ -83,12 +99,21 @@ pub fn basis(futures: u32, index: u32) -> i64
 }
 
 // The weighted sum with one more valid minute after the first `count`. A 64-bit number holds the sum of a whole day, and no
-// more, so the day's limits are asked.
+// more, so the day's limits are required.
 pub fn accrue(sum: i64, count: u32, basis: i64) -> i64
     requires { ⌜ Accrues sum count basis ⌝ }
     ensures { λ r. ⌜ r ≡ accrued sum count basis ⌝ }
 {
     sum + (count as i64 + 1) * basis
+}
+
+// The most that the weighted sum of so many valid minutes comes to, in size. The minutes of a day are required, so that it fits.
+pub fn weighted_limit(count: u32) -> u64
+    requires { ⌜ count ≤ mostMinutes ⌝ }
+    ensures { λ r. ⌜ r ≡ weightedLimit count ⌝ }
+{
+    let k = count as u64;
+    MOST_BASIS * (k * (k + 1) / 2)
 }
 
 // The rate of `count` valid minutes with this weighted sum.
@@ -144,9 +169,9 @@ fn index_price(index: u32, previous: Previous) -> u32
 }
 
 // The settlement price by its three rules in order, or 0 where none gives one. What contracts of the final minute were
-// traded for is asked to be at most what they cost at the largest price: their average is then no larger than a price.
+// traded for has to be at most what they cost at the largest price: their average is then no larger than a price.
 pub fn settlement_price(set: u32, traded: FinalMinute, index: u32, previous: Previous) -> u32
-    requires { ⌜ traded .gross ≤ 50000000 * traded .contracts ⌝ }
+    requires { ⌜ traded .gross ≤ largestPrice * traded .contracts ⌝ }
     ensures { λ r. ⌜ r ≡ settlementPrice set traded index previous ⌝ }
 {
     if set != 0 {

@@ -4,3 +4,4 @@ pub mod Ring
 pub mod Machine
 pub mod Overflow
 pub mod Rounding
+pub mod Tests

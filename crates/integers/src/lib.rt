@@ -5,6 +5,7 @@ ghost use Prim.Native.Nat.{_+_, _<_, _^_};
 ghost use lib.IntN.{pos, natAbs, _+ℤ_};
 ghost use lib.Signed.{_<ℤ_};
 ghost use Rattle.integers.specs.Rounding.{withSignOf, onTie, rounded, halfEven};
+ghost use Rattle.integers.specs.Size.{within};
 
 // Where a quotient half way between two whole numbers goes.
 pub enum Tie {
@@ -19,6 +20,13 @@ pub fn magnitude(x: i64) -> u64
     ensures { λ r. ⌜ r ≡ natAbs x ⌝ }
 {
     if x < 0 { ((!x) as u64) + 1 } else { x as u64 }
+}
+
+// Whether a signed number's size is at most a limit.
+pub fn is_within(x: i64, limit: u64) -> bool
+    ensures { λ r. ⌜ r ≡ within x limit ⌝ }
+{
+    magnitude(x) <= limit
 }
 
 // The whole number after q on the side of x, farther from zero. There has to be one: q is not the largest or the least.

@@ -18,7 +18,7 @@ use lib.ListN.{length, getD, set}
 use lib.Seq.{getD-set-same, getD-set-other}
 use Rattle.integers.proofs.Order.{abs-add}
 use Rattle.ledger.specs.Columns.{entry, countAt, raise, raiseCount, table, allBelow, sumBelow}
-use Rattle.ledger.proofs.Tests.{_and_, each}
+use Rattle.integers.proofs.Tests.{_and_, each}
 
 -- ---- of every account
 

@@ -11,23 +11,29 @@ use Prim.Native.Nat.{ℕ}
 use native.Mathlib.Omega.{arith}
 use lib.ListN.{length-set, length-replicate}
 use borrow.Author.Tests.{eqb-true}
-use Rattle.funding.proofs.Tests.{by-test}
-use Rattle.ledger.specs.declared.Call.{Call}
-use Rattle.ledger.specs.declared.Call.the-variants as call
-use Rattle.ledger.specs.declared.Figures.{Figures}
+use Rattle.integers.proofs.Tests.{by-test}
+use Rattle.day.specs.declared.call.Call.{Call}
+use Rattle.day.specs.declared.call.Call.the-variants as call
+use Rattle.day.specs.declared.figures.Figures.{Figures}
+use Rattle.day.specs.Effects.{figuresAfter}
+use Rattle.day.specs.Opening.{isSize}
+use Rattle.day.specs.Calls.{onTrade}
+use Rattle.day.specs.Refusals.{noAccounts}
+use Rattle.day.proofs.Held.{HeldFigures, HeldFinal}
+use Rattle.day.proofs.Keeping.{held-after}
 use Rattle.ledger.specs.declared.Book.{Book}
-use Rattle.ledger.specs.Opening.{isSize, fresh, opening}
+use Rattle.ledger.specs.Columns.{countAt, sumBelow}
+use Rattle.ledger.specs.Opening.{fresh, opening}
 use Rattle.ledger.specs.Limits.{withinLimits}
-use Rattle.ledger.specs.Effects.{figuresAfter, withFigures, effect}
-use Rattle.ledger.specs.Refusals.{refusal}
+use Rattle.ledger.specs.Effects.{withFigures, effect}
+use Rattle.ledger.specs.Refusals.{accountsOf, refusal}
 use Rattle.ledger.specs.Step.{isAccepted, step, run}
 use Rattle.ledger.specs.Keeping.{Shaped, FreshShaped, ShapeKept, FreshWithin, LimitsKept, RunWithin, NeverBeyond}
 use Rattle.ledger.proofs.Columns.{table-length}
 use Rattle.ledger.proofs.Held.{Held, held, holds}
 use Rattle.ledger.proofs.Passed.{Passed, passed, within-passes}
-use Rattle.ledger.proofs.KeepingDay.{quote-kept, halt-kept, resume-kept, minute-end-kept, fix-kept}
-use Rattle.ledger.proofs.KeepingTrade.{trade-kept}
-use Rattle.ledger.proofs.KeepingClose.{fresh-held, close-kept}
+use Rattle.ledger.proofs.KeepingTrade.{traded-account, traded-final}
+use Rattle.ledger.proofs.KeepingClose.{no-trades, fresh-held, closed-account}
 
 -- ---- the columns' lengths
 
@@ -52,17 +58,26 @@ shape-kept n b call.Close s =
 
 -- ---- the limits
 
-kept : (n : ℕ) (b : Book) (c : Call) → Shaped n b → Held n b → Passed n b c → Held n (effect n b c)
-kept n b (call.Quote m) s h p = quote-kept n b h m p
-kept n b (call.Trade t) s h p = trade-kept n b t s h p
-kept n b call.Halt s h p = halt-kept n b h
-kept n b call.Resume s h p = resume-kept n b h
-kept n b (call.MinuteEnd u) s h p = minute-end-kept n b h u p
-kept n b (call.Fix set) s h p = fix-kept n b h set p
-kept n b call.Close s h p = close-kept n b h p
+module _ (n : ℕ) (b : Book) (h : Held n b) where
+  -- a call that touches no column, and leaves the closed days and the trades of the final minute
+  same-accounts : (f : Figures) → HeldFigures f → f .closed ≡ b .figures .closed → f .day .trades .settling ≡ b .figures .day .trades .settling → Held n (withFigures b f)
+  same-accounts f figures closed settling = record { figures = figures; account = λ j l. omega (arith, h .account j l, closed); final = rw settling (h .final) }
+
+  kept : (c : Call) → Shaped n b → Passed n b c → Held n (effect n b c)
+  unfolding effect figuresAfter
+  kept c s p = by c p (held-after (b .figures) (onTrade (accountsOf n (b .position) (b .volume)) noAccounts c) (h .figures) c (sumBelow n (countAt (b .volume))) (h .final) (p .sentences))
+    where
+      by : (c : Call) → Passed n b c → HeldFigures (figuresAfter (b .figures) c) → Held n (effect n b c)
+      by (call.Quote m) p f = same-accounts (figuresAfter (b .figures) (call.Quote m)) f refl refl
+      by (call.Trade t) p f = record { figures = f; account = traded-account n b t s h p (figuresAfter (b .figures) (call.Trade t)) refl; final = traded-final n b t s h p }
+      by call.Halt p f = same-accounts (figuresAfter (b .figures) call.Halt) f refl refl
+      by call.Resume p f = same-accounts (figuresAfter (b .figures) call.Resume) f refl refl
+      by (call.MinuteEnd u) p f = same-accounts (figuresAfter (b .figures) (call.MinuteEnd u)) f refl refl
+      by (call.Fix set) p f = same-accounts (figuresAfter (b .figures) (call.Fix set)) f refl refl
+      by call.Close p f = record { figures = f; account = closed-account n b h; final = no-trades _ }
 
 pub limits-kept : LimitsKept
-limits-kept n b c s r = let p = passed n b c r in holds n (effect n b c) (kept n b c s (held n b (p .limits)) p)
+limits-kept n b c s r = let p = passed n b c r in holds n (effect n b c) (kept n b (held n b (p .limits)) c s p)
 
 pub fresh-within : FreshWithin
 fresh-within n s h = holds n (fresh n s) (fresh-held n s h)

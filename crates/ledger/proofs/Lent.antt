@@ -1,34 +1,41 @@
 -- What a book within its limits gives the inner layer.
---     tradable, fixable, closable     what its functions ask
+--     tradable, fixable, closable     what its functions require
 --     step-within                     refusal 2 passes
 --     on-figures                      a call that touches no account, on the figures alone
 -- Assumes nothing.
 use mathlib.Core.Path.{_≡_, refl, _∙_, ap}
 use mathlib.Core.Bool.{Bool, true, false, cond}
 use mathlib.Core.List.{List}
-use Prim.Native.Nat.{ℕ, _<_, _≤_}
+use Prim.Native.Nat.{ℕ, _*_, _<_, _≤_}
 use native.Mathlib.Omega.{arith}
 use lib.Dec.{eqb}
 use lib.IntN.{ℤ, natAbs}
 use lib.ListN.{length}
-use Rattle.ledger.specs.declared.Trade.{Trade}
-use Rattle.ledger.specs.declared.Call.{Call}
-use Rattle.ledger.specs.declared.Figures.{Figures}
+use Rattle.funding.specs.Price.{largestPrice}
+use Rattle.day.specs.declared.trade.Trade.{Trade}
+use Rattle.day.specs.declared.call.Call.{Call}
+use Rattle.day.specs.declared.figures.Figures.{Figures}
+use Rattle.day.specs.declared.outcome.Outcome.{Outcome}
+use Rattle.day.specs.Effects.{figuresAfter}
+use Rattle.day.specs.Refusals.{firstMet, figuresRefusal}
+use Rattle.day.specs.Outcome.{outcome}
+use Rattle.day.specs.Inner.{Fixable}
+use Rattle.day.proofs.Held.{figures-hold, size-most}
 use Rattle.ledger.specs.declared.Book.{Book}
-use Rattle.ledger.specs.declared.Outcome.{Outcome}
 use Rattle.ledger.specs.Columns.{accounts, entry}
-use Rattle.ledger.specs.Effects.{figuresAfter, withFigures, effect}
-use Rattle.ledger.specs.Refusals.{refusalWithin, refusal}
+use Rattle.ledger.specs.Limits.{mostVolume}
+use Rattle.ledger.specs.Effects.{withFigures, effect}
+use Rattle.ledger.specs.Refusals.{sentencesOf, refusal}
 use Rattle.ledger.specs.Step.{step}
-use Rattle.ledger.specs.Inner.{bookOf, answerOf, outcome, figuresRefusal, answered, Tradable, Fixable, Closable, WithinLimits}
-use Rattle.ledger.proofs.Held.{Held, held, figures-hold, contracts-most, size-most}
+use Rattle.ledger.specs.Inner.{bookOf, answerOf, answered, Tradable, Closable, WithinLimits}
+use Rattle.ledger.proofs.Held.{Held, held, contracts-most}
 
 module _ (b : Book) (w : WithinLimits accounts b) where
   holds : Held accounts b
   holds = held accounts b (w .within)
 
   -- an account's cost is within its contracts at the largest price
-  cost-most : (j : ℕ) → j < accounts → natAbs (entry (b .cost) j) ≤ 100000000000000
+  cost-most : (j : ℕ) → j < accounts → natAbs (entry (b .cost) j) ≤ mostVolume * largestPrice
   cost-most j h = let a = holds .account j h in omega (arith, a .cost, a .volume)
 
   pub tradable : (t : Trade) → t .buyer < accounts → t .seller < accounts → Tradable (b .figures) (b .position) (b .cost) (b .volume) t
@@ -40,8 +47,8 @@ module _ (b : Book) (w : WithinLimits accounts b) where
       let v : length (b .volume) ≡ accounts = w .shaped .volume in
       record {
         positions = record { buyer-in = rw p hb; seller-in = rw p hs; buyer = x .position; seller = y .position };
-        costs = record { buyer-in = rw c hb; seller-in = rw c hs; buyer = cost-most (t .buyer) hb; seller = cost-most (t .seller) hs };
-        volumes = record { buyer-in = rw v hb; seller-in = rw v hs; buyer = x .volume; seller = y .volume };
+        costs = record { buyer-in = rw c hb; seller-in = rw c hs; buyer = omega (arith, cost-most (t .buyer) hb); seller = omega (arith, cost-most (t .seller) hs) };
+        volumes = record { buyer-in = rw v hb; seller-in = rw v hs; buyer = omega (arith, x .volume); seller = omega (arith, y .volume) };
         contracts = omega (arith, contracts-most accounts b holds);
         gross = omega (arith, contracts-most accounts b holds, holds .final .high);
       }
@@ -67,7 +74,7 @@ through : (t : Bool) (f g : Figures) (opening position cost : List ℤ) (volume 
 through true f g opening position cost volume cash = refl
 through false f g opening position cost volume cash = refl
 
-pub on-figures : (n : ℕ) (b : Book) (c : Call) {r : Outcome} → refusalWithin n b c ≡ figuresRefusal n (b .figures) c → effect n b c ≡ withFigures b (figuresAfter (b .figures) c) → r ≡ outcome (b .figures) (figuresRefusal n (b .figures) c) c → answerOf r (b .opening) (b .position) (b .cost) (b .volume) (b .cash) ≡ answered n b c
+pub on-figures : (n : ℕ) (b : Book) (c : Call) {r : Outcome} → firstMet (sentencesOf n b c) ≡ figuresRefusal (b .figures) c → effect n b c ≡ withFigures b (figuresAfter (b .figures) c) → r ≡ outcome (b .figures) c → answerOf r (b .opening) (b .position) (b .cost) (b .volume) (b .cash) ≡ answered n b c
 on-figures n b c {r} number after e =
     ap (λ (r : Outcome). answerOf r (b .opening) (b .position) (b .cost) (b .volume) (b .cash)) e
-    ∙ rw (number, after, through (eqb (figuresRefusal n (b .figures) c) 0) (figuresAfter (b .figures) c) (b .figures) (b .opening) (b .position) (b .cost) (b .volume) (b .cash))
+    ∙ rw (number, after, through (eqb (figuresRefusal (b .figures) c) 0) (figuresAfter (b .figures) c) (b .figures) (b .opening) (b .position) (b .cost) (b .volume) (b .cash))

@@ -5,9 +5,10 @@ use mathlib.Core.Bool.{true}
 use mathlib.Core.List.{List}
 use Prim.Native.Nat.{ℕ}
 use lib.ListN.{length}
-use Rattle.ledger.specs.declared.Call.{Call}
+use Rattle.day.specs.declared.call.Call.{Call}
+use Rattle.day.specs.Opening.{isSize}
 use Rattle.ledger.specs.declared.Book.{Book}
-use Rattle.ledger.specs.Opening.{isSize, fresh, opening}
+use Rattle.ledger.specs.Opening.{fresh, opening}
 use Rattle.ledger.specs.Limits.{withinLimits}
 use Rattle.ledger.specs.Effects.{effect}
 use Rattle.ledger.specs.Refusals.{refusal}

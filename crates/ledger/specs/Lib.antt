@@ -1,5 +1,4 @@
 pub mod Columns
-pub mod Day
 pub mod Opening
 pub mod Limits
 pub mod Effects

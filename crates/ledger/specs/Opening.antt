@@ -1,26 +1,16 @@
 -- The opening.
-use mathlib.Core.Bool.{Bool, false, cond, _||_}
 use Prim.Native.Nat.{ℕ}
-use lib.Dec.{eqb}
 use lib.IntN.{pos}
 use lib.ListN.{replicate}
-use Rattle.ledger.specs.declared.Figures.{Figures}
+use Rattle.day.specs.declared.figures.Figures.{Figures}
+use Rattle.day.specs.Opening.{freshFigures, opened}
 use Rattle.ledger.specs.declared.Book.{Book}
-use Rattle.ledger.specs.declared.Fixing.{Fixing}
 use Rattle.ledger.specs.declared.Answer.{Answer}
-use Rattle.ledger.specs.Day.{emptyDay}
 
--- 01: "size 1 or 10"
-abbrev pub isSize : ℕ → Bool
-isSize s = eqb s 1 || eqb s 10
-
-abbrev pub freshFigures : ℕ → Figures
-freshFigures s = record { size = s; closed = 0; halted = false; previous = record { price = 0; index = 0 }; day = emptyDay }
-
--- 01: "a fresh book holds that size, zeros, and no halt", here over n accounts
-abbrev pub fresh : ℕ → ℕ → Book
-fresh n s = record {
-  figures = freshFigures s;
+-- a book of n accounts with these figures, and zeros in every column
+abbrev pub emptyBook : ℕ → Figures → Book
+emptyBook n f = record {
+  figures = f;
   opening = replicate n (pos 0);
   position = replicate n (pos 0);
   cost = replicate n (pos 0);
@@ -28,9 +18,10 @@ fresh n s = record {
   cash = replicate n (pos 0);
 }
 
-abbrev pub noFixing : Fixing
-noFixing = record { price = 0; rate = pos 0; amount = pos 0; valid = 0 }
+-- 01: "a fresh book holds that size, zeros, and no halt", here over n accounts
+abbrev pub fresh : ℕ → ℕ → Book
+fresh n s = emptyBook n (freshFigures s)
 
--- 01: "A refused opening returns an empty book of size 0"; its number is 5
+-- 01: "A fresh book is what an accepted opening hands back"; "A refused opening returns an empty book of size 0"
 abbrev pub opening : ℕ → ℕ → Answer
-opening n s = record { code = cond (isSize s) 0 5; fixing = noFixing; book = fresh n (cond (isSize s) s 0) }
+opening n s = record { code = opened s .code; fixing = opened s .fixing; book = emptyBook n (opened s .figures) }

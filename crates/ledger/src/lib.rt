@@ -1,94 +1,35 @@
 // The ledger of one contract, from the first quote of a trade date to the cash posted at its close.
+ghost use mathlib.Core.Path.{_≡_};
+ghost use lib.ListN.{length};
+ghost use Rattle.ledger.specs.Columns.{accounts};
+ghost use Rattle.ledger.specs.Limits.{withinLimits};
+ghost use Rattle.ledger.specs.Opening.{opening as Opening·opening};
+ghost use Rattle.ledger.specs.Report.{reportRefusal, reported};
+ghost use Rattle.ledger.specs.Step.{step as Step·step};
+use day::call::Call;
+use day::figures::Figures;
+use day::market::Market;
+use day::outcome::Fixing;
+use day::product::Product;
+use day::trade::Trade;
+use limits::limits_hold;
+use report::fill;
+use step::step_on;
+
 mod close;
-mod fix;
 mod limits;
-mod minute;
-pub mod product;
-mod quoting;
 pub mod report;
 pub mod step;
 pub mod trading;
 
-use funding::FinalMinute;
-use funding::Previous;
-
 // Accounts are 0 to 255, one byte.
 pub const ACCOUNTS: usize = 256;
-// The minutes of a day.
-pub const DAY_LENGTH: u32 = 1_320;
-
-pub const MOST_DAYS: u32 = 2_600;
 
 pub const MOST_VOLUME: u32 = 2_000_000;
 
 pub const MOST_POSITION: u64 = 1_200_000;
-
-pub const MOST_AMOUNT: u64 = 10_000;
 // What an account's cash may rise or fall by in a day.
 pub const MOST_POSTING: u64 = 2_700_000_000_000_000;
-// What the basis of a minute may come to.
-pub const MOST_BASIS: u64 = 9_999_000_000_000;
-
-pub const MOST_QUANTITY: u32 = 100_000;
-
-pub const LEAST_BLOCK: u32 = 250;
-
-// A market, or one side of it: 0 where a side doesn't stand.
-pub struct Market {
-    pub bid: u32,
-    pub offer: u32,
-}
-
-pub struct Trade {
-    pub buyer: u8,
-    pub seller: u8,
-    // 0 simple, 1 spread against spread, 2 block
-    pub kind: u8,
-    pub quantity: u32,
-    pub price: u32,
-}
-
-pub enum Call {
-    Quote(Market),
-    Trade(Trade),
-    Halt,
-    Resume,
-    MinuteEnd(u32),
-    Fix(u32),
-    Close,
-}
-
-// The day's figures, which a close empties. A price, an index or a side is 0 where there is none; a fixed price of 0 means
-// that the day isn't fixed.
-pub struct Day {
-    // ended minutes
-    pub minutes: u32,
-    // valid count k, and weighted sum S
-    pub valid: u32,
-    pub weighted: i64,
-    pub market: Market,
-    // the minute's market
-    pub minute: Market,
-    // the last trade
-    pub last: u32,
-    // n and gross
-    pub traded: FinalMinute,
-    // the u of the last minute
-    pub index: u32,
-    // fixed price and fixed amount
-    pub price: u32,
-    pub amount: i64,
-}
-
-// All that a book holds beside its account columns.
-pub struct Figures {
-    pub size: u32,
-    // closed days
-    pub closed: u32,
-    pub halted: bool,
-    pub previous: Previous,
-    pub day: Day,
-}
 
 // A contract's book: its figures and, for each account, the opening and the present position, the cost and the contracts
 // bought plus sold today (v), and the cash.
@@ -101,16 +42,6 @@ pub struct Book {
     pub cash: [i64; ACCOUNTS],
 }
 
-// What a fix prints; zeros for any other call.
-pub struct Fixing {
-    pub price: u32,
-    // the clamped rate
-    pub rate: i64,
-    pub amount: i64,
-    // valid count k
-    pub valid: u32,
-}
-
 // The refusal's number and the same book, or 0 and the new one.
 pub struct Answer {
     pub code: u8,
@@ -118,9 +49,138 @@ pub struct Answer {
     pub book: Book,
 }
 
-// An answer without the account columns, which are lent to the inner layer and changed in place.
-pub struct Outcome {
-    pub code: u8,
-    pub fixing: Fixing,
-    pub figures: Figures,
+impl Book {
+    // A fresh book of this size, or refusal 5 with an empty book of size 0.
+    pub fn opening(size: u32) -> Answer
+        ensures { λ r. ⌜ r ≡ Opening·opening accounts size ⌝ }
+    {
+        let opened = Product::opening(size);
+        let fixing = opened.fixing;
+        let figures = opened.figures;
+        Answer {
+            code: opened.code,
+            fixing,
+            book: Book {
+                figures,
+                opening: [0; ACCOUNTS],
+                position: [0; ACCOUNTS],
+                cost: [0; ACCOUNTS],
+                volume: [0; ACCOUNTS],
+                cash: [0; ACCOUNTS],
+            },
+        }
+    }
+
+    pub fn is_within_limits(self) -> bool
+        ensures { λ r. ⌜ r ≡ withinLimits accounts self ⌝ }
+    {
+        let opening = self.opening;
+        let position = self.position;
+        let cost = self.cost;
+        let volume = self.volume;
+        let cash = self.cash;
+        limits_hold(self.figures, &opening, &position, &cost, &volume, &cash)
+    }
+
+    // Any call.
+    pub fn step(self, call: Call) -> Answer
+        ensures { λ r. ⌜ r ≡ Step·step accounts self call ⌝ }
+    {
+        let mut opening = self.opening;
+        let mut position = self.position;
+        let mut cost = self.cost;
+        let mut volume = self.volume;
+        let mut cash = self.cash;
+        if !limits_hold(self.figures, &opening, &position, &cost, &volume, &cash) {
+            return Answer {
+                code: 2,
+                fixing: Fixing::none(),
+                book: self,
+            };
+        }
+        let outcome = step_on(
+            self.figures,
+            &mut opening,
+            &mut position,
+            &mut cost,
+            &mut volume,
+            &mut cash,
+            call,
+        );
+        let after = outcome.figures;
+        let fixing = outcome.fixing;
+        Answer {
+            code: outcome.code,
+            fixing,
+            book: Book {
+                figures: after,
+                opening,
+                position,
+                cost,
+                volume,
+                cash,
+            },
+        }
+    }
+
+    pub fn quote(self, bid: u32, offer: u32) -> Answer
+        ensures { λ r. ⌜ r ≡ Step·step accounts self (Call.Quote (record { bid = bid; offer = offer })) ⌝ }
+    {
+        self.step(Call::Quote(Market { bid, offer }))
+    }
+
+    pub fn trade(self, trade: Trade) -> Answer
+        ensures { λ r. ⌜ r ≡ Step·step accounts self (Call.Trade trade) ⌝ }
+    {
+        self.step(Call::Trade(trade))
+    }
+
+    pub fn halt(self) -> Answer
+        ensures { λ r. ⌜ r ≡ Step·step accounts self Call.Halt ⌝ }
+    {
+        self.step(Call::Halt)
+    }
+
+    pub fn resume(self) -> Answer
+        ensures { λ r. ⌜ r ≡ Step·step accounts self Call.Resume ⌝ }
+    {
+        self.step(Call::Resume)
+    }
+
+    pub fn minute_end(self, index: u32) -> Answer
+        ensures { λ r. ⌜ r ≡ Step·step accounts self (Call.MinuteEnd index) ⌝ }
+    {
+        self.step(Call::MinuteEnd(index))
+    }
+
+    pub fn fix(self, set: u32) -> Answer
+        ensures { λ r. ⌜ r ≡ Step·step accounts self (Call.Fix set) ⌝ }
+    {
+        self.step(Call::Fix(set))
+    }
+
+    pub fn close(self) -> Answer
+        ensures { λ r. ⌜ r ≡ Step·step accounts self Call.Close ⌝ }
+    {
+        self.step(Call::Close)
+    }
+
+    // Entry j of the lists becomes account j's position and cash. Refusals 2 and 10 leave the lists as they are.
+    pub fn report(self, positions: &mut [i64], cash: &mut [i64]) -> u8
+        ensures number { λ r. ⌜ r ≡ reportRefusal accounts self (length (now (positions .entry))) (length (now (cash .entry))) ⌝ }
+        ensures positions { λ r. ⌜ now (positions .exit) ≡ reported r (self .position) (now (positions .entry)) ⌝ }
+        ensures cash { λ r. ⌜ now (cash .exit) ≡ reported r (self .cash) (now (cash .entry)) ⌝ }
+    {
+        if !self.is_within_limits() {
+            return 2;
+        }
+        if (positions.len() != ACCOUNTS) | (cash.len() != ACCOUNTS) {
+            return 10;
+        }
+        let position = self.position;
+        fill(positions, &position);
+        let posted = self.cash;
+        fill(cash, &posted);
+        0
+    }
 }

@@ -3,57 +3,32 @@ ghost use mathlib.Core.Path.{_≡_};
 ghost use mathlib.Core.Bool.{cond};
 ghost use Prim.Native.Nat.{_+_, _≤_};
 ghost use lib.Dec.{eqb};
+ghost use Rattle.day.specs.Refusals.{mostQuantity};
 ghost use Rattle.ledger.specs.Columns.{accounts};
-ghost use Rattle.ledger.specs.Day.{inLastMinute};
-ghost use Rattle.ledger.specs.Effects.{traded, exchanged, counted};
-ghost use Rattle.ledger.specs.Refusals.{tradeOutside, volumeStays, positionStays};
-ghost use Rattle.ledger.specs.Inner.{tradeRefusal, TradeAnswered, Exchangeable, Countable, Printable, Tradable};
+ghost use Rattle.ledger.specs.Limits.{mostPosition};
+ghost use Rattle.ledger.specs.Effects.{exchanged, counted};
+ghost use Rattle.ledger.specs.Refusals.{volumeStays, positionStays, tradeRefusal};
+ghost use Rattle.ledger.specs.Inner.{mostEntry, mostMoved, TradeAnswered, Exchangeable, Countable, Tradable};
 use crate::ACCOUNTS;
-use crate::DAY_LENGTH;
-use crate::Day;
-use crate::Figures;
-use crate::LEAST_BLOCK;
 use crate::MOST_POSITION;
-use crate::MOST_QUANTITY;
 use crate::MOST_VOLUME;
-use crate::Outcome;
-use crate::Trade;
-use funding::FinalMinute;
+use day::figures::Figures;
+use day::outcome::Outcome;
+use day::trade::Trade;
 
-impl Trade {
-    fn is_outside(self) -> bool
-        ensures { λ r. ⌜ r ≡ tradeOutside self ⌝ }
-    {
-        if (self.quantity == 0) | (MOST_QUANTITY < self.quantity) {
-            return true;
-        }
-        if !funding::is_price(self.price) {
-            return true;
-        }
-        if self.kind == 0 {
-            return !funding::is_ticked(self.price);
-        }
-        (2 < self.kind) | ((self.kind == 2) & (self.quantity < LEAST_BLOCK))
-    }
+// What the v of each account of a trade rises by: both sides where they are one account.
+fn counts(t: Trade) -> u64
+    ensures { λ r. ⌜ r ≡ cond (eqb (t .buyer) (t .seller)) (t .quantity + t .quantity) (t .quantity) ⌝ }
+{
+    let q = t.quantity as u64;
+    if t.buyer == t.seller { q + q } else { q }
+}
 
-    // What the v of each of its accounts rises by: both sides where they are one account.
-    fn counts(self) -> u64
-        ensures { λ r. ⌜ r ≡ cond (eqb (self .buyer) (self .seller)) (self .quantity + self .quantity) (self .quantity) ⌝ }
-    {
-        let q = self.quantity as u64;
-        if self.buyer == self.seller { q + q } else { q }
-    }
-
-    // What the positions of its accounts move by: a trade with oneself moves none.
-    fn moves(self) -> u32
-        ensures { λ r. ⌜ r ≡ cond (eqb (self .buyer) (self .seller)) 0 (self .quantity) ⌝ }
-    {
-        if self.buyer == self.seller {
-            0
-        } else {
-            self.quantity
-        }
-    }
+// What the positions of its accounts move by: a trade with oneself moves none.
+fn moves(t: Trade) -> u32
+    ensures { λ r. ⌜ r ≡ cond (eqb (t .buyer) (t .seller)) 0 (t .quantity) ⌝ }
+{
+    if t.buyer == t.seller { 0 } else { t.quantity }
 }
 
 // Whether the v of both accounts stays within its limit.
@@ -63,21 +38,21 @@ fn volume_stays(volume: &[u32; ACCOUNTS], t: Trade) -> bool
 {
     let i = t.buyer as usize;
     let j = t.seller as usize;
-    let raised = t.counts();
+    let raised = counts(t);
     let bought = volume[i] as u64 + raised;
     let sold = volume[j] as u64 + raised;
     (bought <= MOST_VOLUME as u64) & (sold <= MOST_VOLUME as u64)
 }
 
-// Whether the positions of both accounts stay within their limit. Positions within it are asked, so that the sums fit, and so
-// that a buyer's can pass it only above and a seller's only below.
+// Whether the positions of both accounts stay within their limit. Positions within it are required, so that the sums fit, and
+// so that a buyer's can pass it only above and a seller's only below.
 fn position_stays(position: &[i64; ACCOUNTS], t: Trade) -> bool
-    requires { ⌜ Exchangeable (now position) t 1200000 ⌝ }
+    requires { ⌜ Exchangeable (now position) t mostPosition ⌝ }
     ensures { λ r. ⌜ r ≡ positionStays (now (position .entry)) t ⌝ }
 {
     let i = t.buyer as usize;
     let j = t.seller as usize;
-    let moved = t.moves() as i64;
+    let moved = moves(t) as i64;
     let bought = position[i] + moved;
     let sold = position[j] - moved;
     let most = MOST_POSITION as i64;
@@ -86,7 +61,7 @@ fn position_stays(position: &[i64; ACCOUNTS], t: Trade) -> bool
 
 // Moves an amount from the seller's entry to the buyer's. The seller's is read after the buyer's is written.
 fn exchange(column: &mut [i64; ACCOUNTS], t: Trade, amount: u64)
-    requires { ⌜ Exchangeable (now column) t 100000000000000 × (amount ≤ 5000000000000) ⌝ }
+    requires { ⌜ Exchangeable (now column) t mostEntry × (amount ≤ mostMoved) ⌝ }
     ensures { λ _. ⌜ now (column .exit) ≡ exchanged (now (column .entry)) t amount ⌝ }
 {
     let i = t.buyer as usize;
@@ -98,38 +73,13 @@ fn exchange(column: &mut [i64; ACCOUNTS], t: Trade, amount: u64)
 
 // Raises the v of both accounts.
 fn count(volume: &mut [u32; ACCOUNTS], t: Trade)
-    requires { ⌜ Countable (now volume) t × (t .quantity ≤ 100000) ⌝ }
+    requires { ⌜ Countable (now volume) t × (t .quantity ≤ mostQuantity) ⌝ }
     ensures { λ _. ⌜ now (volume .exit) ≡ counted (now (volume .entry)) t ⌝ }
 {
     let i = t.buyer as usize;
     let j = t.seller as usize;
     volume[i] = volume[i] + t.quantity;
     volume[j] = volume[j] + t.quantity;
-}
-
-impl Day {
-    pub(crate) fn is_in_last_minute(self) -> bool
-        ensures { λ r. ⌜ r ≡ inLastMinute (self .minutes) ⌝ }
-    {
-        self.minutes as u64 + 1 == DAY_LENGTH as u64
-    }
-
-    // The day after a trade. Room for it in n and in the gross is asked.
-    fn traded(self, t: Trade) -> Day
-        requires { ⌜ Printable self t ⌝ }
-        ensures { λ r. ⌜ r ≡ traded self t ⌝ }
-    {
-        let mut day = self;
-        day.last = t.price;
-        if self.is_in_last_minute() & (t.kind == 0) {
-            let traded = FinalMinute {
-                contracts: self.traded.contracts + t.quantity,
-                gross: self.traded.gross + t.quantity as u64 * t.price as u64,
-            };
-            day.traded = traded;
-        }
-        day
-    }
 }
 
 // The number of a trade's refusal, 0 for none.
@@ -139,17 +89,12 @@ fn trade_code(
     volume: &[u32; ACCOUNTS],
     t: Trade,
 ) -> u8
-    requires { ⌜ Exchangeable (now position) t 1200000 × Countable (now volume) t ⌝ }
+    requires { ⌜ Exchangeable (now position) t mostPosition × Countable (now volume) t ⌝ }
     ensures { λ r. ⌜ r ≡ tradeRefusal accounts figures (now (position .entry)) (now (volume .entry)) t ⌝ }
 {
-    if figures.is_full() {
-        return 3;
-    }
-    if figures.halted {
-        return 4;
-    }
-    if t.is_outside() {
-        return 5;
+    let code = figures.trade_code(t);
+    if code != 0 {
+        return code;
     }
     if !volume_stays(volume, t) {
         return 7;
@@ -169,17 +114,16 @@ pub fn trade_on(
     t: Trade,
 ) -> Outcome
     requires { ⌜ Tradable figures (now position) (now cost) (now volume) t ⌝ }
-    ensures { λ r. ⌜ TradeAnswered accounts figures (now (position .entry)) (now (cost .entry)) (now (volume .entry)) t r (now (position .exit)) (now (cost .exit)) (now (volume .exit)) ⌝ }
+    ensures { λ r. ⌜ TradeAnswered accounts figures (now (position .entry)) (now (cost .entry)) (now (volume .entry)) t
+        r (now (position .exit)) (now (cost .exit)) (now (volume .exit)) ⌝ }
 {
     let code = trade_code(figures, position, volume, t);
     if code != 0 {
-        return figures.refused(code);
+        return Outcome::unchanged(figures, code);
     }
     let quantity = t.quantity as u64;
     exchange(position, t, quantity);
     count(volume, t);
     exchange(cost, t, quantity * t.price as u64);
-    let mut after = figures;
-    after.day = figures.day.traded(t);
-    after.accepted()
+    Outcome::changed(figures.traded(t))
 }

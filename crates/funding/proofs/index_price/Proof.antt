@@ -7,8 +7,9 @@ use native.Mathlib.Omega.{arith}
 use lib.Dec.{leb}
 use borrow.Author.Needs.{needs}
 use Rattle.funding.specs.declared.Previous.{Previous}
-use Rattle.funding.specs.Price.{isPrice, isGiven}
-use Rattle.funding.proofs.Tests.{leb-same, both-true, price-to}
+use Rattle.funding.specs.Price.{leastPrice, largestPrice, isPrice, isPresent}
+use Rattle.integers.proofs.Tests.{leb-same, both-true}
+use Rattle.funding.proofs.Prices.{price-to}
 use Rattle.funding.proofs.index_price.Statement.{statement}
 use Rattle.funding.proofs.index_price.Tie as tie
 
@@ -17,16 +18,16 @@ module _ (index : ℕ) (previous : Previous) where
   sum = index + previous .price
 
   abbrev given : Bool
-  given = isGiven index && isGiven (previous .price) && isGiven (previous .index)
+  given = isPresent index && isPresent (previous .price) && isPresent (previous .index)
 
-  price-is : leb (5000 + previous .index) sum && leb sum (50000000 + previous .index) ≡ isPrice (sum - previous .index)
+  price-is : leb (leastPrice + previous .index) sum && leb sum (largestPrice + previous .index) ≡ isPrice (sum - previous .index)
   price-is =
       let u = previous .index in
       ap₂ _&&_
-      (leb-same (5000 + u) sum 5000 (sum - u) (λ h. omega arith) (λ h. omega arith))
-      (leb-same sum (50000000 + u) (sum - u) 50000000 (λ h. omega arith) (λ h. omega arith))
+      (leb-same (leastPrice + u) sum leastPrice (sum - u) (λ h. omega arith) (λ h. omega arith))
+      (leb-same sum (largestPrice + u) (sum - u) largestPrice (λ h. omega arith) (λ h. omega arith))
 
-  test-is : given && (leb (5000 + previous .index) sum && leb sum (50000000 + previous .index)) ≡ given && isPrice (sum - previous .index)
+  test-is : given && (leb (leastPrice + previous .index) sum && leb sum (largestPrice + previous .index)) ≡ given && isPrice (sum - previous .index)
   test-is = ap (λ t. given && t) price-is
 
 -- where the test holds, the result is a price
@@ -37,7 +38,7 @@ module _ (c : tie.Then1) where
   abbrev previous : Previous
   previous = c .before .before .before .before .before .args .previous
 
-  result : (5000 ≤ index + previous .price - previous .index) × (index + previous .price - previous .index ≤ 50000000)
+  result : (leastPrice ≤ index + previous .price - previous .index) × (index + previous .price - previous .index ≤ largestPrice)
   result =
       let p = index + previous .price - previous .index in
       price-to p (both-true (given index previous) (isPrice p) (sym (test-is index previous) ∙ c .if1 .taken) .1)

@@ -8,7 +8,7 @@ use borrow.Author.Tests.{not-true, not-false, eqb-true}
 use borrow.Author.Needs.{needs}
 use Rattle.ledger.specs.Columns.{accounts}
 use Rattle.ledger.specs.Limits.{withinLimits}
-use Rattle.ledger.proofs.Tests.{none}
+use Rattle.integers.proofs.Tests.{none}
 use Rattle.ledger.proofs.Book.report.Statement.{statement}
 use Rattle.ledger.proofs.Book.report.Tie as tie
 
@@ -19,10 +19,10 @@ within c = sym (c .before .is-within-limits .ensures) ∙ not-false (c .before .
 lengths : (c : tie.Else2) → let a = c .before .before .before .args in (length (a .positions .now) ≡ accounts) × (length (a .cash .now) ≡ accounts)
 lengths c =
     let a = c .before .before .before .args in
-    let p = eqb (length (a .positions .now)) 256 in
-    let m = eqb (length (a .cash .now)) 256 in
+    let p = eqb (length (a .positions .now)) accounts in
+    let m = eqb (length (a .cash .now)) accounts in
     let t = none (not p) (not m ∷ []) (c .if2 .left) in
-    (eqb-true (length (a .positions .now)) 256 (not-false p (t 0)), eqb-true (length (a .cash .now)) 256 (not-false m (t 1)))
+    (eqb-true (length (a .positions .now)) accounts (not-false p (t 0)), eqb-true (length (a .cash .now)) accounts (not-false m (t 1)))
 
 position-length : (s : tie.Start) → length (s .args .self .position) ≡ accounts
 position-length s = search needs

@@ -1,26 +1,28 @@
 -- `ledger::close::post` meets its contract. The loop's invariant: the accounts passed have their cash posted. Assumes nothing.
 use mathlib.Core.Path.{_≡_, _∙_, ap, ap₂}
 use mathlib.Core.List.{List, _∷_, []}
-use Prim.Native.Nat.{ℕ, _-_, _<_, _≤_}
+use Prim.Native.Nat.{ℕ, _*_, _-_, _<_, _≤_}
 use native.Mathlib.Omega.{arith}
 use lib.IntN.{ℤ, pos, natAbs, _+ℤ_}
 use lib.ListN.{length, set}
 use borrow.Author.Needs.{needs}
 use Rattle.integers.proofs.Machine.{read-back}
 use Rattle.integers.proofs.Overflow.{arg, add, val, Within, _▹_, done, safe, runs}
-use Rattle.ledger.specs.Columns.{entry}
+use Rattle.ledger.specs.Columns.{accounts, entry}
 use Rattle.ledger.specs.Effects.{posting, posted}
 use Rattle.ledger.proofs.Filling.{filling, fill-start, fill-next, fill-read, fill-end}
-use Rattle.ledger.proofs.Held.{held-figures}
+use Rattle.day.specs.Limits.{mostDays}
+use Rattle.day.proofs.Held.{held-figures}
+use Rattle.ledger.specs.Limits.{mostPosting}
 use Rattle.ledger.proofs.KeepingClose.{posting-size}
 use Rattle.ledger.proofs.close.post.Statement.{statement}
 use Rattle.ledger.proofs.close.post.Tie as tie
 
 abbrev Inv-loop : tie.InvT-loop
-Inv-loop figures opening position cost cash₀ i₀ cash i = (i ≤ 256) × (cash ≡ filling i (posted figures opening position cost cash₀) cash₀)
+Inv-loop figures opening position cost cash₀ i₀ cash i = (i ≤ accounts) × (cash ≡ filling i (posted figures opening position cost cash₀) cash₀)
 
 abbrev μ-loop : tie.MeasureT-loop
-μ-loop figures opening position cost cash₀ i₀ cash i = 256 - i
+μ-loop figures opening position cost cash₀ i₀ cash i = accounts - i
 
 module _ (c : tie.After-posting Inv-loop μ-loop) where
   -- the account
@@ -30,7 +32,7 @@ module _ (c : tie.After-posting Inv-loop μ-loop) where
   abbrev start : tie.Start Inv-loop μ-loop
   start = c .before .before .before .before .before .before .before
 
-  inside : i < 256
+  inside : i < accounts
   inside = search needs
 
   -- its cash is as it was, and what is added to it
@@ -42,11 +44,11 @@ module _ (c : tie.After-posting Inv-loop μ-loop) where
       c .posting .ensures
       ∙ rw (read-back (entry (start .args .opening .now) i) (c .before .before .before .before .o .given), read-back (entry (start .args .position .now) i) (c .before .before .before .p .given), read-back (entry (start .args .cost .now) i) (c .before .before .c .given))
 
-  within : Within (val (entry (c .before .before .before .before .before .before .loop .cash) i) ∷ val (c .posting .result) ∷ []) (7020000000000000000 ∷ 2700000000000000 ∷ [])
+  within : Within (val (entry (c .before .before .before .before .before .before .loop .cash) i) ∷ val (c .posting .result) ∷ []) (mostDays * mostPosting ∷ mostPosting ∷ [])
   within =
       let p = start .pre .postable i inside in
-      let h : natAbs (entry (c .before .before .before .before .before .before .loop .cash) i) ≤ 7020000000000000000 = rw cash-at (start .pre .cash-size i inside) in
-      let k : natAbs (c .posting .result) ≤ 2700000000000000 =
+      let h : natAbs (entry (c .before .before .before .before .before .before .loop .cash) i) ≤ mostDays * mostPosting = rw cash-at (start .pre .cash-size i inside) in
+      let k : natAbs (c .posting .result) ≤ mostPosting =
       rw posting-is (posting-size (start .args .figures) (entry (start .args .position .now) i) (entry (start .args .opening .now) i) (entry (start .args .cost .now) i) (held-figures (start .args .figures) (p .figures)) (p .position-size) (p .opening-size) (p .cost-size)) in
       h ▹ k ▹ done
 
@@ -83,7 +85,7 @@ posting-requires : tie.Need-posting-requires Inv-loop μ-loop
 posting-requires c κs =
     let s = c .before .before .before .before .before .before in
     let i = c .before .before .before .before .before .loop .i in
-    let h : i < 256 = search needs in
+    let h : i < accounts = search needs in
     rw
     (read-back (entry (s .args .opening .now) i) (c .before .before .before .o .given), read-back (entry (s .args .position .now) i) (c .before .before .p .given), read-back (entry (s .args .cost .now) i) (c .before .c .given))
     (s .pre .postable i h)
@@ -116,9 +118,9 @@ loop-again c =
 returns : tie.Need-returns Inv-loop μ-loop
 returns c =
     let a = c .before .before .args in
-    let e : c .before .loop .i ≡ 256 = omega arith in
+    let e : c .before .loop .i ≡ accounts = omega arith in
     let f = posted (a .figures) (a .opening .now) (a .position .now) (a .cost .now) (a .cash .now) in
-    c .before .loop .inv .1 ∙ ap (λ (k : ℕ). filling k f (a .cash .now)) e ∙ fill-end 256 f (a .cash .now) (c .before .before .pre .cash-length)
+    c .before .loop .inv .1 ∙ ap (λ (k : ℕ). filling k f (a .cash .now)) e ∙ fill-end accounts f (a .cash .now) (c .before .before .pre .cash-length)
 
 pub post-spec : {M : Type 1} → statement M
 post-spec =

@@ -1,20 +1,26 @@
 -- `ledger::close::posting` meets its contract: with numbers within their limits nothing leaves 64 bits. Assumes nothing.
 use mathlib.Core.List.{_∷_, []}
+use Prim.Native.Nat.{_*_}
 use lib.IntN.{pos}
 use borrow.Author.Needs.{needs}
 use Rattle.integers.proofs.Overflow.{Op, arg, lit, add, sub, mul, val, nat, Within, _▹_, done, safe, runs}
-use Rattle.ledger.proofs.Held.{held-figures, size-most, price-most}
+use Rattle.funding.specs.Price.{largestPrice}
+use Rattle.funding.proofs.Prices.{price-most}
+use Rattle.day.specs.Opening.{tenth}
+use Rattle.day.specs.Limits.{mostAmount}
+use Rattle.day.proofs.Held.{held-figures, size-most}
+use Rattle.ledger.specs.Limits.{mostPosition, mostVolume}
 use Rattle.ledger.proofs.close.posting.Statement.{statement}
 use Rattle.ledger.proofs.close.posting.Tie as tie
 
 within :
     (s : tie.Start) → let a = s .args in let f = a .figures in
-    Within (val (a .position) ∷ nat (f .day .price) ∷ val (a .opening) ∷ nat (f .previous .price) ∷ val (a .cost) ∷ nat (f .size) ∷ val (f .day .amount) ∷ []) (1200000 ∷ 50000000 ∷ 1200000 ∷ 50000000 ∷ 100000000000000 ∷ 10 ∷ 10000 ∷ [])
+    Within (val (a .position) ∷ nat (f .day .fixed .price) ∷ val (a .opening) ∷ nat (f .previous .price) ∷ val (a .cost) ∷ nat (f .size) ∷ val (f .day .fixed .amount) ∷ []) (mostPosition ∷ largestPrice ∷ mostPosition ∷ largestPrice ∷ mostVolume * largestPrice ∷ tenth ∷ mostAmount ∷ [])
 within s =
     let f = s .args .figures in
     let p = s .pre in
     let h = held-figures f (p .figures) in
-    p .position-size ▹ price-most (f .day .price) (h .day .price) ▹ p .opening-size ▹ price-most (f .previous .price) (h .price) ▹ p .cost-size ▹ size-most (f .size) (h .size) ▹ h .day .amount ▹ done
+    p .position-size ▹ price-most (f .day .fixed .price) (h .day .price) ▹ p .opening-size ▹ price-most (f .previous .price) (h .price) ▹ p .cost-size ▹ size-most (f .size) (h .size) ▹ h .day .amount ▹ done
 
 abbrev value : Op
 value = mul (arg 0) (arg 1)

@@ -7,28 +7,30 @@ use lib.Dec.{leb}
 use mir.Facts.{toZ-ofZ}
 use borrow.Author.Tests.{not-true, not-false, lt-leb, le-leb}
 use borrow.Author.Needs.{needs}
-use Rattle.ledger.specs.Limits.{within}
+use Rattle.integers.specs.Size.{within}
+use Rattle.funding.specs.Price.{largestPrice}
+use Rattle.ledger.specs.Limits.{mostPosition, mostVolume}
 use Rattle.ledger.proofs.limits.account_holds.Statement.{statement}
 use Rattle.ledger.proofs.limits.account_holds.Tie as tie
 
 -- each test in turn
-opening-is : (c : tie.After-position-holds) → c .position-holds .result ≡ within (c .before .args .opening) 1200000
-opening-is c = c .position-holds .ensures ∙ ap (λ z. within z 1200000) (toZ-ofZ (c .before .fits .opening))
+opening-is : (c : tie.After-position-holds) → c .position-holds .result ≡ within (c .before .args .opening) mostPosition
+opening-is c = c .position-holds .ensures ∙ ap (λ z. within z mostPosition) (toZ-ofZ (c .before .fits .opening))
 
-position-is : (c : tie.After-position-holds2) → c .position-holds2 .result ≡ within (c .before .before .before .args .position) 1200000
-position-is c = c .position-holds2 .ensures ∙ ap (λ z. within z 1200000) (toZ-ofZ (c .before .before .before .fits .position))
+position-is : (c : tie.After-position-holds2) → c .position-holds2 .result ≡ within (c .before .before .before .args .position) mostPosition
+position-is c = c .position-holds2 .ensures ∙ ap (λ z. within z mostPosition) (toZ-ofZ (c .before .before .before .fits .position))
 
-opening-holds : (c : tie.Else1) → within (c .before .before .args .opening) 1200000 ≡ true
+opening-holds : (c : tie.Else1) → within (c .before .before .args .opening) mostPosition ≡ true
 opening-holds c = sym (opening-is (c .before)) ∙ not-false (c .before .position-holds .result) (c .if1 .left)
 
-position-holds : (c : tie.Else2) → within (c .before .before .before .before .args .position) 1200000 ≡ true
+position-holds : (c : tie.Else2) → within (c .before .before .before .before .args .position) mostPosition ≡ true
 position-holds c = sym (position-is (c .before)) ∙ not-false (c .before .position-holds2 .result) (c .if2 .left)
 
-v-holds : (c : tie.Else3) → leb (c .before .before .before .before .before .args .v) 2000000 ≡ true
-v-holds c = le-leb (c .before .before .before .before .before .args .v) 2000000 (omega arith)
+v-holds : (c : tie.Else3) → leb (c .before .before .before .before .before .args .v) mostVolume ≡ true
+v-holds c = le-leb (c .before .before .before .before .before .args .v) mostVolume (omega arith)
 
-cost-is : (c : tie.After-is-within) → let s = c .before .before .before .before .before .before in c .is-within .result ≡ within (s .args .cost) (s .args .v * 50000000)
-cost-is c = let s = c .before .before .before .before .before .before in c .is-within .ensures ∙ ap (λ z. within z (s .args .v * 50000000)) (toZ-ofZ (s .fits .cost))
+cost-is : (c : tie.After-is-within) → let s = c .before .before .before .before .before .before in c .is-within .result ≡ within (s .args .cost) (s .args .v * largestPrice)
+cost-is c = let s = c .before .before .before .before .before .before in c .is-within .ensures ∙ ap (λ z. within z (s .args .v * largestPrice)) (toZ-ofZ (s .fits .cost))
 
 position-holds-requires : tie.Need-position-holds-requires
 position-holds-requires c κs = search needs
@@ -46,7 +48,7 @@ returns-3 : tie.Need-returns-3
 returns-3 c =
     let o = c .before in
     let s = o .before .before .before .before in
-    rw (opening-holds (o .before .before), position-holds o, lt-leb (s .args .v) 2000000 (omega arith))
+    rw (opening-holds (o .before .before), position-holds o, lt-leb (s .args .v) mostVolume (omega arith))
 
 cast-is-within : tie.Need-cast-is-within
 cast-is-within c = search needs

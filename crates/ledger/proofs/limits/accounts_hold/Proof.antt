@@ -8,10 +8,10 @@ use lib.IntN.{ℤ}
 use borrow.Author.Tests.{not-true, not-false}
 use borrow.Author.Needs.{needs}
 use Rattle.integers.proofs.Machine.{read-back}
-use Rattle.ledger.specs.Columns.{entry, countAt, allBelow}
+use Rattle.ledger.specs.Columns.{accounts, entry, countAt, allBelow}
 use Rattle.ledger.specs.Limits.{accountHolds}
 use Rattle.ledger.specs.Inner.{accountAt}
-use Rattle.ledger.proofs.Tests.{_and_}
+use Rattle.integers.proofs.Tests.{_and_}
 use Rattle.ledger.proofs.Columns.{allBelow-zero, allBelow-suc, all-not}
 use Rattle.ledger.proofs.limits.accounts_hold.Statement.{statement}
 use Rattle.ledger.proofs.limits.accounts_hold.Tie as tie
@@ -20,10 +20,10 @@ same : (closed v : ℕ) {o o′ p p′ c c′ m m′ : ℤ} → o ≡ o′ → p
 same closed v e f g h = rw (e, f, g, h)
 
 abbrev Inv-loop : tie.InvT-loop
-Inv-loop closed opening position cost volume cash i₀ i = (i ≤ 256) × (allBelow i (accountAt closed opening position cost volume cash) ≡ true)
+Inv-loop closed opening position cost volume cash i₀ i = (i ≤ accounts) × (allBelow i (accountAt closed opening position cost volume cash) ≡ true)
 
 abbrev μ-loop : tie.MeasureT-loop
-μ-loop closed opening position cost volume cash i₀ i = 256 - i
+μ-loop closed opening position cost volume cash i₀ i = accounts - i
 
 -- an account of the lent columns
 abbrev account : tie.Start Inv-loop μ-loop → ℕ → Bool
@@ -83,8 +83,8 @@ returns : tie.Need-returns Inv-loop μ-loop
 returns c =
     let l = c .before .before .before .before .before .before .before .before in
     let i = l .loop .i in
-    let h : i < 256 = search needs in
-    sym (all-not 256 (account (l .before)) i h (sym (tested (c .before)) ∙ not-true (c .before .account-holds .result) (c .if1 .taken)))
+    let h : i < accounts = search needs in
+    sym (all-not accounts (account (l .before)) i h (sym (tested (c .before)) ∙ not-true (c .before .account-holds .result) (c .if1 .taken)))
 
 add-i : tie.Need-add-i Inv-loop μ-loop
 add-i c = search needs
@@ -101,7 +101,7 @@ loop-again c =
     (search needs, ap (λ (n : ℕ). allBelow n p) (add-one i) ∙ allBelow-suc i p ∙ (l .loop .inv .1 and h))
 
 returns-2 : tie.Need-returns-2 Inv-loop μ-loop
-returns-2 c = let e : c .before .loop .i ≡ 256 = omega arith in sym (rw e at (c .before .loop .inv .1))
+returns-2 c = let e : c .before .loop .i ≡ accounts = omega arith in sym (rw e at (c .before .loop .inv .1))
 
 pub accounts-hold-spec : {M : Type 1} → statement M
 accounts-hold-spec =

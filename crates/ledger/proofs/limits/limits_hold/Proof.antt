@@ -8,12 +8,14 @@ use borrow.Author.Needs.{needs}
 use borrow.Author.Tests.{leb-true, not-true, not-false}
 use Rattle.ledger.specs.declared.Book.{Book}
 use Rattle.ledger.specs.Columns.{accounts, allBelow}
-use Rattle.ledger.specs.Opening.{isSize}
-use Rattle.ledger.specs.Limits.{noneOrPrice, dayHolds, figuresHold, accountOf, withinLimits}
+use Rattle.funding.specs.Price.{noneOrPrice}
+use Rattle.day.specs.Opening.{isSize}
+use Rattle.day.specs.Limits.{mostDays, dayHolds, figuresHold}
+use Rattle.ledger.specs.Limits.{accountOf, withinLimits}
 use Rattle.ledger.specs.Inner.{bookOf}
 use Rattle.ledger.proofs.Columns.{all-at}
 use Rattle.ledger.proofs.Held.{held-account}
-use Rattle.ledger.proofs.Tests.{each}
+use Rattle.integers.proofs.Tests.{each}
 use Rattle.ledger.proofs.limits.limits_hold.Statement.{statement}
 use Rattle.ledger.proofs.limits.limits_hold.Tie as tie
 
@@ -38,7 +40,7 @@ accounts-hold-requires : tie.Need-accounts-hold-requires
 unfolding figuresHold
 accounts-hold-requires c κs =
     let f = c .before .before .args .figures in
-    leb-true (f .closed) 2600 (each (isSize (f .size)) (leb (f .closed) 2600 ∷ noneOrPrice (f .previous .price) ∷ noneOrPrice (f .previous .index) ∷ dayHolds (f .day) ∷ []) (figures-hold c) 1)
+    leb-true (f .closed) mostDays (each (isSize (f .size)) (leb (f .closed) mostDays ∷ noneOrPrice (f .previous .price) ∷ noneOrPrice (f .previous .index) ∷ dayHolds (f .day) ∷ []) (figures-hold c) 1)
 
 returns-2 : tie.Need-returns-2
 unfolding withinLimits

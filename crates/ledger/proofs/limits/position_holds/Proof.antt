@@ -2,6 +2,7 @@
 use mir.Facts.{toZ-ofZ}
 use borrow.Author.Needs.{needs}
 use Rattle.integers.proofs.Order.{between}
+use Rattle.ledger.specs.Limits.{mostPosition}
 use Rattle.ledger.proofs.limits.position_holds.Statement.{statement}
 use Rattle.ledger.proofs.limits.position_holds.Tie as tie
 
@@ -12,7 +13,7 @@ sub-result : tie.Need-sub-result
 sub-result c = search needs
 
 returns : tie.Need-returns
-returns c = rw (toZ-ofZ (c .fits .position)) (between (c .args .position) 1200000)
+returns c = rw (toZ-ofZ (c .fits .position)) (between (c .args .position) mostPosition)
 
 pub position-holds-spec : {M : Type 1} → statement M
 position-holds-spec = tie.close (tie.spec cast-most sub-result returns)

@@ -4,19 +4,20 @@ use Prim.Native.Nat.{_*_, _-_, _≤_}
 use native.Mathlib.Numerals.{add-one}
 use native.Mathlib.Omega.{arith}
 use borrow.Author.Needs.{needs}
-use Rattle.ledger.specs.Columns.{countAt, sumBelow}
+use Rattle.ledger.specs.Columns.{accounts, countAt, sumBelow}
+use Rattle.ledger.specs.Limits.{mostVolume}
 use Rattle.ledger.proofs.Columns.{sumBelow-zero, sumBelow-suc}
 use Rattle.ledger.proofs.limits.volume_of.Statement.{statement}
 use Rattle.ledger.proofs.limits.volume_of.Tie as tie
 
 abbrev Inv-loop : tie.InvT-loop
-Inv-loop volume sum₀ i₀ sum i = (i ≤ 256) × (sum ≤ i * 2000000) × (sum ≡ sumBelow i (countAt volume))
+Inv-loop volume sum₀ i₀ sum i = (i ≤ accounts) × (sum ≤ i * mostVolume) × (sum ≡ sumBelow i (countAt volume))
 
 abbrev μ-loop : tie.MeasureT-loop
-μ-loop volume sum₀ i₀ sum i = 256 - i
+μ-loop volume sum₀ i₀ sum i = accounts - i
 
 -- the account's v
-most : (c : tie.After-sum Inv-loop μ-loop) → countAt (c .before .before .before .args .volume .now) (c .before .before .loop .i) ≤ 2000000
+most : (c : tie.After-sum Inv-loop μ-loop) → countAt (c .before .before .before .args .volume .now) (c .before .before .loop .i) ≤ mostVolume
 most c = c .before .before .before .pre (c .before .before .loop .i) (search needs)
 
 loop-holds : tie.Need-loop-holds Inv-loop μ-loop
@@ -44,7 +45,7 @@ loop-again : tie.Need-loop-again Inv-loop μ-loop
 loop-again c = (search needs, omega (arith, most c), rw (add-one, sumBelow-suc, ← c .before .before .loop .inv .2))
 
 returns : tie.Need-returns Inv-loop μ-loop
-returns c = let e : c .before .loop .i ≡ 256 = omega arith in rw e at (c .before .loop .inv .2)
+returns c = let e : c .before .loop .i ≡ accounts = omega arith in rw e at (c .before .loop .inv .2)
 
 pub volume-of-spec : {M : Type 1} → statement M
 volume-of-spec =

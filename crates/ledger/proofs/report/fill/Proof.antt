@@ -8,16 +8,16 @@ use lib.ListN.{set, length-set}
 use lib.ListN as lists
 use borrow.Author.Needs.{needs}
 use Rattle.integers.proofs.Machine.{read-back}
-use Rattle.ledger.specs.Columns.{entry}
+use Rattle.ledger.specs.Columns.{accounts, entry}
 use Rattle.ledger.proofs.Filling.{filling, fill-start, fill-next, fill-end, table-of}
 use Rattle.ledger.proofs.report.fill.Statement.{statement}
 use Rattle.ledger.proofs.report.fill.Tie as tie
 
 abbrev Inv-loop : tie.InvT-loop
-Inv-loop list₀ column i₀ list i = (i ≤ 256) × (lists.length list ≡ 256) × (list ≡ filling i (entry column) list₀)
+Inv-loop list₀ column i₀ list i = (i ≤ accounts) × (lists.length list ≡ accounts) × (list ≡ filling i (entry column) list₀)
 
 abbrev μ-loop : tie.MeasureT-loop
-μ-loop list₀ column i₀ list i = 256 - i
+μ-loop list₀ column i₀ list i = accounts - i
 
 loop-holds : tie.Need-loop-holds Inv-loop μ-loop
 loop-holds c = (search needs, c .pre .0, fill-start (entry (c .args .column .now)) (c .args .list .now))
@@ -56,8 +56,8 @@ returns : tie.Need-returns Inv-loop μ-loop
 returns c =
     let s = c .before .before in
     let f = entry (s .args .column .now) in
-    let e : c .before .loop .i ≡ 256 = omega arith in
-    c .before .loop .inv .2 ∙ ap (λ (k : ℕ). filling k f (s .args .list .now)) e ∙ fill-end 256 f (s .args .list .now) (s .pre .0) ∙ table-of 256 (s .args .column .now) (pos 0) (s .pre .1)
+    let e : c .before .loop .i ≡ accounts = omega arith in
+    c .before .loop .inv .2 ∙ ap (λ (k : ℕ). filling k f (s .args .list .now)) e ∙ fill-end accounts f (s .args .list .now) (s .pre .0) ∙ table-of accounts (s .args .column .now) (pos 0) (s .pre .1)
 
 pub fill-spec : {M : Type 1} → statement M
 fill-spec =

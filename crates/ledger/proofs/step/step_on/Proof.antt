@@ -8,8 +8,9 @@ use Rattle.ledger.specs.Effects.{effect}
 use Rattle.ledger.specs.Inner.{bookOf}
 use Rattle.ledger.specs.Step.{step}
 use Rattle.ledger.specs.declared.Book.{Book}
-use Rattle.ledger.specs.declared.Call.the-variants as call
-use Rattle.ledger.proofs.Held.{held, figures-hold}
+use Rattle.day.specs.declared.call.Call.the-variants as call
+use Rattle.day.proofs.Held.{figures-hold}
+use Rattle.ledger.proofs.Held.{held}
 use Rattle.ledger.proofs.Lent.{tradable, fixable, closable, step-within, on-figures}
 use Rattle.ledger.proofs.step.step_on.Statement.{statement}
 use Rattle.ledger.proofs.step.step_on.Tie as tie

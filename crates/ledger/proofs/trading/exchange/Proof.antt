@@ -1,24 +1,25 @@
 -- `ledger::trading::exchange` meets its contract: neither entry leaves 64 bits, the seller's being read after the buyer's is written. Assumes nothing.
 use mathlib.Core.List.{_∷_, []}
-use Prim.Native.Nat.{_≤_}
+use Prim.Native.Nat.{_+_, _≤_}
 use native.Mathlib.Omega.{arith}
 use lib.IntN.{pos, natAbs}
 use borrow.Author.Needs.{needs}
 use Rattle.integers.proofs.Overflow.{Op, arg, add, sub, val, nat, Within, _▹_, done, safe, runs}
 use Rattle.ledger.specs.Columns.{entry, raise}
+use Rattle.ledger.specs.Inner.{mostEntry, mostMoved}
 use Rattle.ledger.proofs.Columns.{entry-raised}
 use Rattle.ledger.proofs.trading.exchange.Statement.{statement}
 use Rattle.ledger.proofs.trading.exchange.Tie as tie
 
-buying : (s : tie.Start) → Within (val (entry (s .args .column .now) (s .args .t .buyer)) ∷ nat (s .args .amount) ∷ []) (100000000000000 ∷ 5000000000000 ∷ [])
+buying : (s : tie.Start) → Within (val (entry (s .args .column .now) (s .args .t .buyer)) ∷ nat (s .args .amount) ∷ []) (mostEntry ∷ mostMoved ∷ [])
 buying s = s .pre .0 .buyer ▹ s .pre .1 ▹ done
 
 selling :
-    (s : tie.Start) → Within (val (entry (raise (s .args .column .now) (s .args .t .buyer) (pos (s .args .amount))) (s .args .t .seller)) ∷ nat (s .args .amount) ∷ []) (105000000000000 ∷ 5000000000000 ∷ [])
+    (s : tie.Start) → Within (val (entry (raise (s .args .column .now) (s .args .t .buyer) (pos (s .args .amount))) (s .args .t .seller)) ∷ nat (s .args .amount) ∷ []) ((mostEntry + mostMoved) ∷ mostMoved ∷ [])
 selling s =
     let t = s .args .t in
     let l = s .args .column .now in
-    let h : natAbs (entry (raise l (t .buyer) (pos (s .args .amount))) (t .seller)) ≤ 105000000000000 = omega (arith, s .pre .0 .seller, s .pre .1, entry-raised l (t .buyer) (t .seller) (pos (s .args .amount))) in
+    let h : natAbs (entry (raise l (t .buyer) (pos (s .args .amount))) (t .seller)) ≤ mostEntry + mostMoved = omega (arith, s .pre .0 .seller, s .pre .1, entry-raised l (t .buyer) (t .seller) (pos (s .args .amount))) in
     h ▹ s .pre .1 ▹ done
 
 abbrev bought : Op

@@ -11,14 +11,15 @@ use borrow.Author.Needs.{needs}
 use Rattle.integers.proofs.Laws.{add-is, neg-up, neg-dn}
 use Rattle.integers.proofs.Order.{size, apart, not-above, not-below}
 use Rattle.integers.proofs.Overflow.{arg, add, sub, val, nat, Within, _▹_, done, safe, runs}
-use Rattle.funding.proofs.Tests.{by-test}
+use Rattle.integers.proofs.Tests.{by-test}
 use Rattle.ledger.specs.Columns.{entry}
+use Rattle.ledger.specs.Limits.{mostPosition}
 use Rattle.ledger.proofs.Raised.{buyer-entry, seller-entry}
 use Rattle.ledger.proofs.trading.position_stays.Statement.{statement}
 use Rattle.ledger.proofs.trading.position_stays.Tie as tie
 
 limits : (c : tie.After-moves) → let s = c .before .before .before in
-    Within (val (entry (s .args .position .now) (s .args .t .buyer)) ∷ val (entry (s .args .position .now) (s .args .t .seller)) ∷ nat (c .moves .result) ∷ []) (1200000 ∷ 1200000 ∷ 4294967295 ∷ [])
+    Within (val (entry (s .args .position .now) (s .args .t .buyer)) ∷ val (entry (s .args .position .now) (s .args .t .seller)) ∷ nat (c .moves .result) ∷ []) (mostPosition ∷ mostPosition ∷ 4294967295 ∷ [])
 limits c =
     let s = c .before .before .before in
     let t = s .args .t in
@@ -75,8 +76,8 @@ returns c =
     rw (
       runs (limits m) (add (arg 0) (arg 2)) tt,
       runs (limits m) (sub (arg 1) (arg 2)) tt,
-      not-above (b +ℤ q) 1200000 (omega (arith, p .buyer, size b, add-is b q, apart (b +ℤ q))),
-      not-below (a -ℤ q) 1200000 (omega (arith, p .seller, size a, add-is a (negℤ q), neg-up q, neg-dn q, apart (a -ℤ q))),
+      not-above (b +ℤ q) mostPosition (omega (arith, p .buyer, size b, add-is b q, apart (b +ℤ q))),
+      not-below (a -ℤ q) mostPosition (omega (arith, p .seller, size a, add-is a (negℤ q), neg-up q, neg-dn q, apart (a -ℤ q))),
       m .moves .ensures,
       buyer-entry l (t .buyer) (t .seller) (t .quantity) (p .buyer-in) (p .seller-in),
       seller-entry l (t .buyer) (t .seller) (t .quantity) (p .buyer-in) (p .seller-in),

@@ -1,12 +1,16 @@
--- `ledger::trading::trade_code` meets its contract: the refusals in their order; a byte is an account. Assumes nothing.
-use mathlib.Core.Path.{_≡_}
-use mathlib.Core.Bool.{false, not, _&&_, or-false}
-use lib.Dec.{ltb}
+-- `ledger::trading::trade_code` meets its contract: the figures' number, or the accounts'; a byte is an account. Assumes nothing.
+use mathlib.Core.Path.{_≡_, sym, _∙_}
+use mathlib.Core.Bool.{false, not, cond, _&&_}
+use mathlib.Core.List.{_∷_, []}
+use lib.Dec.{ltb, eqb}
 use mir.Syntax.{w8}
 use mir.Val.{Fits}
-use borrow.Author.Tests.{lt-ltb}
+use borrow.Author.Tests.{lt-ltb, ne-eqb}
 use borrow.Author.Needs.{needs}
+use Rattle.day.specs.Refusals.{firstMet}
 use Rattle.ledger.specs.Columns.{accounts}
+use Rattle.ledger.specs.Refusals.{volumeStays, positionStays, accountsOf, tradeRefusal}
+use Rattle.ledger.proofs.Passed.{trade-number}
 use Rattle.ledger.proofs.trading.trade_code.Statement.{statement}
 use Rattle.ledger.proofs.trading.trade_code.Tie as tie
 
@@ -16,69 +20,56 @@ accounts-are s =
     let t = s .args .t in
     let b : Fits w8 (t .buyer) = search needs in
     let a : Fits w8 (t .seller) = search needs in
-    rw (lt-ltb (t .buyer) 256 (b .fits), lt-ltb (t .seller) 256 (a .fits))
+    rw (lt-ltb (t .buyer) accounts (b .fits), lt-ltb (t .seller) accounts (a .fits))
 
-is-full-requires : tie.Need-is-full-requires
-is-full-requires c κs = search needs
+-- the number, by the figures' number and the accounts'
+number :
+    (c : tie.After-trade-code) → let a = c .before .args in
+    tradeRefusal accounts (a .figures) (a .position .now) (a .volume .now) (a .t)
+    ≡ cond (eqb (c .trade-code .result) 0)
+    (firstMet ((7, not (volumeStays (a .volume .now) (a .t))) ∷ (8, not (positionStays (a .position .now) (a .t))) ∷ []))
+    (c .trade-code .result)
+number c =
+    let a = c .before .args in
+    rw (c .trade-code .ensures) (trade-number (a .figures) (a .t) (accountsOf accounts (a .position .now) (a .volume .now) (a .t)) (accounts-are (c .before)))
+
+trade-code-requires : tie.Need-trade-code-requires
+trade-code-requires c κs = search needs
 
 returns : tie.Need-returns
-returns c = rw (← c .before .is-full .ensures, c .if1 .taken)
-
-returns-2 : tie.Need-returns-2
-returns-2 c = let f = c .before in rw (← f .before .is-full .ensures, f .if1 .left, c .if2 .taken)
-
-is-outside-requires : tie.Need-is-outside-requires
-is-outside-requires c κs = search needs
-
-returns-3 : tie.Need-returns-3
-returns-3 c =
-    let o = c .before in
-    let h = o .before in
-    let f = h .before in
-    let first = f .before in
-    rw (or-false, ← first .is-full .ensures, f .if1 .left, h .if2 .left, accounts-are (first .before), ← o .is-outside .ensures, c .if3 .taken)
+returns c = sym (number (c .before) ∙ rw (ne-eqb (c .before .trade-code .result) 0 (c .if1 .taken)))
 
 volume-stays-requires : tie.Need-volume-stays-requires
 volume-stays-requires c κs = search needs
 
-returns-4 : tie.Need-returns-4
-returns-4 c =
-    let o = c .before .before .before in
-    let h = o .before in
-    let f = h .before in
-    let first = f .before in
-    rw (or-false, ← first .is-full .ensures, f .if1 .left, h .if2 .left, accounts-are (first .before), ← o .is-outside .ensures, c .before .before .if3 .left, ← c .before .volume-stays .ensures, c .if4 .taken)
+returns-2 : tie.Need-returns-2
+returns-2 c =
+    let f = c .before .before in
+    sym (number (f .before) ∙ rw (f .if1 .left, ← c .before .volume-stays .ensures, c .if2 .taken))
 
 position-stays-requires : tie.Need-position-stays-requires
 position-stays-requires c κs = search needs
 
-returns-5 : tie.Need-returns-5
-returns-5 c =
-    let o = c .before .before .before .before .before in
-    let h = o .before in
-    let f = h .before in
-    let first = f .before in
-    rw (or-false, ← first .is-full .ensures, f .if1 .left, h .if2 .left, accounts-are (first .before), ← o .is-outside .ensures, c .before .before .before .before .if3 .left, ← c .before .before .before .volume-stays .ensures, c .before .before .if4 .left, ← c .before .position-stays .ensures, c .if5 .taken)
+returns-3 : tie.Need-returns-3
+returns-3 c =
+    let v = c .before .before in
+    let f = v .before .before in
+    sym (number (f .before) ∙ rw (f .if1 .left, ← v .before .volume-stays .ensures, v .if2 .left, ← c .before .position-stays .ensures, c .if3 .taken))
 
-returns-6 : tie.Need-returns-6
-returns-6 c =
-    let o = c .before .before .before .before .before in
-    let h = o .before in
-    let f = h .before in
-    let first = f .before in
-    rw (or-false, ← first .is-full .ensures, f .if1 .left, h .if2 .left, accounts-are (first .before), ← o .is-outside .ensures, c .before .before .before .before .if3 .left, ← c .before .before .before .volume-stays .ensures, c .before .before .if4 .left, ← c .before .position-stays .ensures, c .if5 .left)
+returns-4 : tie.Need-returns-4
+returns-4 c =
+    let v = c .before .before in
+    let f = v .before .before in
+    sym (number (f .before) ∙ rw (f .if1 .left, ← v .before .volume-stays .ensures, v .if2 .left, ← c .before .position-stays .ensures, c .if3 .left))
 
 pub trade-code-spec : {M : Type 1} → statement M
 trade-code-spec =
     tie.close
     (tie.spec
-    is-full-requires
+    trade-code-requires
     returns
-    returns-2
-    is-outside-requires
-    returns-3
     volume-stays-requires
-    returns-4
+    returns-2
     position-stays-requires
-    returns-5
-    returns-6)
+    returns-3
+    returns-4)

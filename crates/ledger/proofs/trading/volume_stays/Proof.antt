@@ -5,7 +5,7 @@ use mir.Syntax.{w32}
 use mir.Val.{Fits}
 use native.Mathlib.Omega.{arith}
 use borrow.Author.Needs.{needs}
-use Rattle.funding.proofs.Tests.{by-test}
+use Rattle.integers.proofs.Tests.{by-test}
 use Rattle.ledger.proofs.Raised.{buyer-count, seller-count}
 use Rattle.ledger.proofs.trading.volume_stays.Statement.{statement}
 use Rattle.ledger.proofs.trading.volume_stays.Tie as tie

@@ -1,0 +1,129 @@
+-- What figures within their limits hold, as facts that `omega` reads, and back: figures that hold no more are within their limits.
+--     held-figures, figures-hold     likewise for a day and a final minute
+--     size-is, size-most             the size
+--     held-market                    a market's sides
+-- Assumes nothing.
+use mathlib.Core.Path.{_≡_, refl}
+use mathlib.Core.Bool.{Bool, true, false, _&&_, _||_}
+use mathlib.Core.List.{[], _∷_}
+use mathlib.Core.Logic.{_⊎_, inl, inr, ⊎-elim}
+use Prim.Native.Nat.{ℕ, _*_, _≤_}
+use native.Mathlib.Omega.{arith}
+use lib.Dec.{leb, eqb}
+use lib.IntN.{natAbs}
+use borrow.Author.Tests.{le-leb, eqb-true}
+use Rattle.integers.specs.Size.{within}
+use Rattle.integers.proofs.Tests.{tests, _and_, each, both-true}
+use Rattle.funding.specs.declared.FinalMinute.{FinalMinute}
+use Rattle.funding.specs.Price.{leastPrice, largestPrice, noneOrPrice, noneOrTicked}
+use Rattle.funding.specs.Minute.{weightedLimit}
+use Rattle.funding.proofs.Prices.{ticked-price}
+use Rattle.day.specs.declared.market.Market.{Market}
+use Rattle.day.specs.declared.Day.{Day}
+use Rattle.day.specs.declared.figures.Figures.{Figures}
+use Rattle.day.specs.Day.{dayLength, twoSided}
+use Rattle.day.specs.Opening.{hundredth, tenth, isSize}
+use Rattle.day.specs.Limits.{mostDays, minutesHold, uncrossed, marketHolds, minuteMarketHolds, marketsHold, mostAmount, pricesHold, fixHolds, finalHolds, dayHolds, figuresHold}
+
+-- ---- what is held
+
+pub record HeldDay (d : Day) : Type 0 where
+  pub ended : d .minutes .ended ≤ dayLength d
+  pub valid : d .minutes .valid ≤ d .minutes .ended
+  pub weighted : natAbs (d .minutes .weighted) ≤ weightedLimit (d .minutes .valid)
+  pub markets : marketsHold (d .markets) ≡ true
+  pub last : noneOrPrice (d .trades .last) ≡ true
+  pub index : noneOrPrice (d .minutes .index) ≡ true
+  pub price : noneOrPrice (d .fixed .price) ≡ true
+  pub amount : natAbs (d .fixed .amount) ≤ mostAmount
+  pub fix : fixHolds d ≡ true
+
+pub record HeldFigures (f : Figures) : Type 0 where
+  pub size : isSize (f .size) ≡ true
+  pub closed : f .closed ≤ mostDays
+  pub price : noneOrPrice (f .previous .price) ≡ true
+  pub index : noneOrPrice (f .previous .index) ≡ true
+  pub day : HeldDay (f .day)
+
+-- the final minute's trades, where the accounts' v add up to so much
+pub record HeldFinal (m : FinalMinute) (volume : ℕ) : Type 0 where
+  pub contracts : 2 * m .contracts ≤ volume
+  pub low : leastPrice * m .contracts ≤ m .gross
+  pub high : m .gross ≤ largestPrice * m .contracts
+
+-- ---- from the limits
+
+pub held-day : (d : Day) → dayHolds d ≡ true → HeldDay d
+unfolding dayHolds
+held-day d h =
+    let t = each (minutesHold d) (marketsHold (d .markets) ∷ pricesHold d ∷ fixHolds d ∷ []) h in
+    let m =
+    each (leb (d .minutes .ended) (dayLength d))
+    (leb (d .minutes .valid) (d .minutes .ended) ∷ within (d .minutes .weighted) (weightedLimit (d .minutes .valid)) ∷ []) (t 0) in
+    let p =
+    each (noneOrPrice (d .trades .last))
+    (noneOrPrice (d .minutes .index) ∷ noneOrPrice (d .fixed .price) ∷ within (d .fixed .amount) mostAmount ∷ []) (t 2) in
+    record {
+      ended = omega (tests, m 0);
+      valid = omega (tests, m 1);
+      weighted = omega (tests, m 2);
+      markets = t 1;
+      last = p 0;
+      index = p 1;
+      price = p 2;
+      amount = omega (tests, p 3);
+      fix = t 3;
+    }
+
+pub held-figures : (f : Figures) → figuresHold f ≡ true → HeldFigures f
+unfolding figuresHold
+held-figures f h =
+    let t = each (isSize (f .size)) (leb (f .closed) mostDays ∷ noneOrPrice (f .previous .price) ∷ noneOrPrice (f .previous .index) ∷ dayHolds (f .day) ∷ []) h in
+    record { size = t 0; closed = omega (tests, t 1); price = t 2; index = t 3; day = held-day (f .day) (t 4) }
+
+pub held-final : (m : FinalMinute) (volume : ℕ) → finalHolds m volume ≡ true → HeldFinal m volume
+held-final m volume h =
+    let t = each (leb (2 * m .contracts) volume) (leb (leastPrice * m .contracts) (m .gross) ∷ leb (m .gross) (largestPrice * m .contracts) ∷ []) h in
+    record { contracts = omega (tests, t 0); low = omega (tests, t 1); high = omega (tests, t 2) }
+
+-- ---- and back
+
+pub day-holds : (d : Day) → HeldDay d → dayHolds d ≡ true
+unfolding dayHolds
+day-holds d h =
+    (le-leb _ _ (h .ended) and le-leb _ _ (h .valid) and le-leb _ _ (h .weighted))
+    and h .markets
+    and (h .last and h .index and h .price and le-leb _ _ (h .amount))
+    and h .fix
+
+pub figures-hold : (f : Figures) → HeldFigures f → figuresHold f ≡ true
+unfolding figuresHold
+figures-hold f h = h .size and le-leb _ _ (h .closed) and h .price and h .index and day-holds (f .day) (h .day)
+
+pub final-holds : (m : FinalMinute) (volume : ℕ) → HeldFinal m volume → finalHolds m volume ≡ true
+final-holds m volume h = le-leb _ _ (h .contracts) and le-leb _ _ (h .low) and le-leb _ _ (h .high)
+
+-- ---- what follows
+
+pub size-is : (s : ℕ) → isSize s ≡ true → (s ≡ hundredth) ⊎ (s ≡ tenth)
+size-is s h = by (eqb s hundredth) refl
+  where
+    by : (t : Bool) → eqb s hundredth ≡ t → (s ≡ hundredth) ⊎ (s ≡ tenth)
+    by true e = inl (omega tests)
+    by false e = inr (eqb-true s tenth (rw e at h))
+
+pub size-most : (s : ℕ) → isSize s ≡ true → s ≤ tenth
+size-most s h = ⊎-elim (λ e. omega arith) (λ e. omega arith) (size-is s h)
+
+-- the sides of a market, where there may be none
+pub record HeldMarket (m : Market) : Type 0 where
+  pub bid : noneOrPrice (m .bid) ≡ true
+  pub offer : noneOrPrice (m .offer) ≡ true
+
+pub held-market : (m : Market) → marketHolds m ≡ true → HeldMarket m
+held-market m h =
+    let t = each (noneOrTicked (m .bid)) (noneOrTicked (m .offer) ∷ uncrossed m ∷ []) h in
+    record { bid = ticked-price (m .bid) (t 0); offer = ticked-price (m .offer) (t 1) }
+
+pub held-minute : (m : Market) → minuteMarketHolds m ≡ true → HeldMarket m
+held-minute m h = held-market m (both-true (marketHolds m) (twoSided m || (eqb (m .bid) 0 && eqb (m .offer) 0)) h .0)

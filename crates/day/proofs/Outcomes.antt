@@ -1,0 +1,20 @@
+-- What the answers come to.
+--     refused-is      a refusal with a number that is met is the call's outcome
+--     accepted-is     so are the changed figures, where no number is met
+-- Assumes nothing.
+use mathlib.Core.Path.{_≡_, _∙_}
+use Prim.Native.Nat.{ℕ}
+use borrow.Author.Tests.{ne-eqb}
+use Rattle.day.specs.declared.call.Call.{Call}
+use Rattle.day.specs.declared.figures.Figures.{Figures}
+use Rattle.day.specs.declared.outcome.Outcome.{Outcome}
+use Rattle.day.specs.Effects.{figuresAfter, fixingOf}
+use Rattle.day.specs.Refusals.{figuresRefusal}
+use Rattle.day.specs.Outcome.{unchanged, outcome}
+
+module _ (f : Figures) (c : Call) {code : ℕ} (is : code ≡ figuresRefusal f c) where
+  pub refused-is : {r : Outcome} → (code ≡ 0 → ⊥) → r ≡ unchanged f code → r ≡ outcome f c
+  refused-is {r} h e = e ∙ rw (← is, ne-eqb code 0 h)
+
+  pub accepted-is : {r : Outcome} → code ≡ 0 → r ≡ record { code = 0; fixing = fixingOf f c; figures = figuresAfter f c } → r ≡ outcome f c
+  accepted-is {r} h e = e ∙ rw (← is, h)

@@ -1,0 +1,95 @@
+-- `day::figures::Figures::minute_end` meets its contract: its refusal, or the day after the minute. Assumes nothing.
+use mathlib.Core.Path.{_≡_, refl, sym, _∙_}
+use mathlib.Core.Bool.{true, not}
+use mathlib.Core.List.{_∷_, []}
+use Prim.Native.Nat.{ℕ, zero, suc, _<_}
+use native.Mathlib.Omega.{arith}
+use lib.Dec.{leb, eqb}
+use borrow.Author.Tests.{not-false, not-true, eqb-false}
+use borrow.Author.Needs.{needs}
+use Rattle.integers.proofs.Tests.{tests, each, none}
+use Rattle.funding.specs.Minute.{withinSpread}
+use Rattle.funding.specs.Price.{isPresent, noneOrPrice}
+use Rattle.day.specs.Day.{dayLength, termsOn, twoSided, isFixed, isValid}
+use Rattle.day.specs.Refusals.{isFull, dayForbids, noAccounts}
+use Rattle.day.specs.declared.figures.Figures.{Figures}
+use Rattle.day.specs.Effects.{figuresAfter, fixingOf}
+use Rattle.day.specs.declared.call.Call.the-variants as call
+use Rattle.day.proofs.Outcomes.{refused-is, accepted-is}
+use Rattle.day.proofs.Held.{held-figures}
+use Rattle.day.proofs.Passed.{passed}
+use Rattle.day.proofs.Keeping.{accrues}
+use Rattle.day.proofs.figures.Figures.minute_end.Statement.{statement}
+use Rattle.day.proofs.figures.Figures.minute_end.Tie as tie
+
+-- a valid minute has an index
+present : (f : Figures) (u : ℕ) → isValid (termsOn f) (f .halted) (f .day .markets .minute) u ≡ true → 0 < u
+present f u v =
+    let m = f .day .markets .minute in
+    let e = each (not (f .halted)) (twoSided m ∷ isPresent u ∷ withinSpread (termsOn f) (m .bid) (m .offer) ∷ []) v 2 in
+    some u (eqb-false u 0 (not-true (eqb u 0) e))
+  where
+    some : (u : ℕ) → (u ≡ 0 → ⊥) → 0 < u
+    some zero h = absurd (h refl)
+    some (suc u) h = omega arith
+
+minute-end-code-requires : tie.Need-minute-end-code-requires
+minute-end-code-requires c κs = search needs
+
+unchanged-requires : tie.Need-unchanged-requires
+unchanged-requires c κs = search needs
+
+returns : tie.Need-returns
+returns c =
+    let t = c .before in
+    let a = t .before .before .args in
+    refused-is (a .self) (call.MinuteEnd (a .index)) (t .before .minute-end-code .ensures) (t .if1 .taken) (c .unchanged .ensures)
+
+next-minute-requires : tie.Need-next-minute-requires
+next-minute-requires c κs = search needs
+
+is-valid-requires : tie.Need-is-valid-requires
+is-valid-requires c κs = search needs
+
+minute-ended-requires : tie.Need-minute-ended-requires
+minute-ended-requires c κs =
+    let t = c .before .before .before in
+    let s = t .before .before in
+    let f = s .args .self in
+    let d = f .day in
+    let u = s .args .index in
+    let k = call.MinuteEnd u in
+    let h = held-figures f (s .pre) in
+    let p = passed f k noAccounts (sym (t .before .minute-end-code .ensures) ∙ t .if1 .left) in
+    let before : d .minutes .ended < dayLength d = omega (tests, none (leb (dayLength d) (d .minutes .ended)) (isFixed d ∷ []) (none (isFull f) (dayForbids f k ∷ []) (p .day) 1) 0) in
+    let valid : c .is-valid .result ≡ true → isValid (termsOn f) (f .halted) (d .markets .minute) u ≡ true = λ e. sym (c .is-valid .ensures) ∙ e in
+    record {
+      ended = before;
+      count = omega (arith, h .day .ended, h .day .valid);
+      present = λ e. present f u (valid e);
+      accrues = λ e. accrues d (h .day) (termsOn f) (f .halted) u before (not-false (noneOrPrice u) (p .field)) (valid e);
+    }
+
+changed-requires : tie.Need-changed-requires
+changed-requires c κs = search needs
+
+returns-2 : tie.Need-returns-2
+unfolding figuresAfter fixingOf
+returns-2 c =
+    let t = c .before .before .before .before .before in
+    let a = t .before .before .args in
+    accepted-is (a .self) (call.MinuteEnd (a .index)) (t .before .minute-end-code .ensures) (t .if1 .left)
+    (c .changed .ensures ∙ rw (c .before .minute-ended .ensures, c .before .before .is-valid .ensures, c .before .before .before .next-minute .ensures))
+
+pub minute-end-spec : {M : Type 1} → statement M
+minute-end-spec =
+    tie.close
+    (tie.spec
+    minute-end-code-requires
+    unchanged-requires
+    returns
+    next-minute-requires
+    is-valid-requires
+    minute-ended-requires
+    changed-requires
+    returns-2)

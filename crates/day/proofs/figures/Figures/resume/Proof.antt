@@ -1,0 +1,35 @@
+-- `day::figures::Figures::resume` meets its contract: its refusal, or no halt. Assumes nothing.
+use mathlib.Core.Path.{_∙_}
+use mathlib.Core.Bool.{or-false}
+use borrow.Author.Needs.{needs}
+use Rattle.day.specs.Effects.{figuresAfter, fixingOf}
+use Rattle.day.specs.declared.call.Call.the-variants as call
+use Rattle.day.proofs.Outcomes.{refused-is, accepted-is}
+use Rattle.day.proofs.figures.Figures.resume.Statement.{statement}
+use Rattle.day.proofs.figures.Figures.resume.Tie as tie
+
+halt-code-requires : tie.Need-halt-code-requires
+halt-code-requires c κs = search needs
+
+unchanged-requires : tie.Need-unchanged-requires
+unchanged-requires c κs = search needs
+
+returns : tie.Need-returns
+returns c =
+    let t = c .before in
+    let a = t .before .before .before .args in
+    refused-is (a .self) call.Resume (t .before .halt-code .ensures ∙ rw or-false) (t .if1 .taken) (c .unchanged .ensures)
+
+changed-requires : tie.Need-changed-requires
+changed-requires c κs = search needs
+
+returns-2 : tie.Need-returns-2
+unfolding figuresAfter fixingOf
+returns-2 c =
+    let t = c .before in
+    let a = t .before .before .before .args in
+    accepted-is (a .self) call.Resume (t .before .halt-code .ensures ∙ rw or-false) (t .if1 .left) (c .changed .ensures)
+
+pub resume-spec : {M : Type 1} → statement M
+resume-spec =
+    tie.close (tie.spec halt-code-requires unchanged-requires returns changed-requires returns-2)

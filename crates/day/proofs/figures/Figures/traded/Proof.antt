@@ -1,0 +1,15 @@
+-- `day::figures::Figures::traded` meets its contract. Assumes nothing.
+use borrow.Author.Needs.{needs}
+use Rattle.day.specs.Effects.{figuresAfter}
+use Rattle.day.proofs.figures.Figures.traded.Statement.{statement}
+use Rattle.day.proofs.figures.Figures.traded.Tie as tie
+
+traded-requires : tie.Need-traded-requires
+traded-requires c κs = search needs
+
+returns : tie.Need-returns
+unfolding figuresAfter
+returns c = rw (c .traded .ensures)
+
+pub traded-spec : {M : Type 1} → statement M
+traded-spec = tie.close (tie.spec traded-requires returns)

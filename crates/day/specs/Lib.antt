@@ -1,0 +1,9 @@
+pub mod Calls
+pub mod Day
+pub mod Effects
+pub mod Opening
+pub mod Limits
+pub mod Refusals
+pub mod Outcome
+pub mod Keeping
+pub mod Inner

@@ -1,0 +1,60 @@
+-- The limits on what a book holds beside its account columns, in document 01's order.
+use mathlib.Core.Bool.{Bool, not, _&&_, _||_}
+use Prim.Native.Nat.{ℕ, _*_}
+use lib.Dec.{leb, ltb, eqb}
+use Rattle.integers.specs.Size.{within}
+use Rattle.funding.specs.declared.FinalMinute.{FinalMinute}
+use Rattle.funding.specs.Price.{leastPrice, largestPrice, noneOrPrice, noneOrTicked}
+use Rattle.funding.specs.Minute.{weightedLimit}
+use Rattle.day.specs.declared.market.Market.{Market}
+use Rattle.day.specs.declared.market.Markets.{Markets}
+use Rattle.day.specs.declared.Day.{Day}
+use Rattle.day.specs.declared.figures.Figures.{Figures}
+use Rattle.day.specs.Day.{dayLength, twoSided, isFixed}
+use Rattle.day.specs.Opening.{isSize}
+
+-- 01: "closed days 0 to 2,600"
+abbrev pub mostDays : ℕ
+mostDays = 2600
+
+-- 01: "ended minutes 0 to 1,320; valid count k at most the ended minutes; weighted sum S at most 9,999 × 10^9 × k(k+1)/2 in size"
+abbrev pub minutesHold : Day → Bool
+minutesHold d =
+    leb (d .minutes .ended) (dayLength d) && leb (d .minutes .valid) (d .minutes .ended) && within (d .minutes .weighted) (weightedLimit (d .minutes .valid))
+
+-- 01: "bid below offer when both stand"
+abbrev pub uncrossed : Market → Bool
+uncrossed m = not (twoSided m) || ltb (m .bid) (m .offer)
+
+-- 01: "market sides 0 or ticked, bid below offer when both stand"
+abbrev pub marketHolds : Market → Bool
+marketHolds m = noneOrTicked (m .bid) && noneOrTicked (m .offer) && uncrossed m
+
+-- 01: "the minute's market none or two-sided, likewise"
+abbrev pub minuteMarketHolds : Market → Bool
+minuteMarketHolds m = marketHolds m && (twoSided m || (eqb (m .bid) 0 && eqb (m .offer) 0))
+
+abbrev pub marketsHold : Markets → Bool
+marketsHold m = marketHolds (m .standing) && minuteMarketHolds (m .minute)
+
+-- 01: "last trade, … the day's index and fixed price 0 or a price; fixed amount within ±10,000"
+abbrev pub mostAmount : ℕ
+mostAmount = 10000
+
+abbrev pub pricesHold : Day → Bool
+pricesHold d = noneOrPrice (d .trades .last) && noneOrPrice (d .minutes .index) && noneOrPrice (d .fixed .price) && within (d .fixed .amount) mostAmount
+
+-- 01: "final-minute contracts n at most half the sum of all accounts' v (below), their gross between 5,000n and 50,000,000n"
+abbrev pub finalHolds : FinalMinute → ℕ → Bool
+finalHolds m v = leb (2 * m .contracts) v && leb (leastPrice * m .contracts) (m .gross) && leb (m .gross) (largestPrice * m .contracts)
+
+-- 01: "a fixed day has 1,320 ended minutes"
+abbrev pub fixHolds : Day → Bool
+fixHolds d = not (isFixed d) || eqb (d .minutes .ended) (dayLength d)
+
+unfoldable pub dayHolds : Day → Bool
+dayHolds d = minutesHold d && marketsHold (d .markets) && pricesHold d && fixHolds d
+
+-- 01: "size 1 or 10; closed days 0 to 2,600; … previous price, previous index … 0 or a price"
+unfoldable pub figuresHold : Figures → Bool
+figuresHold f = isSize (f .size) && leb (f .closed) mostDays && noneOrPrice (f .previous .price) && noneOrPrice (f .previous .index) && dayHolds (f .day)

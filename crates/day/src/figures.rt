@@ -1,0 +1,310 @@
+// The figures of a book, and what each call makes of them where it looks at no account.
+ghost use mathlib.Core.Path.{_≡_};
+ghost use mathlib.Core.Bool.{true};
+ghost use mathlib.Core.List.{[], _∷_};
+ghost use Prim.Native.Nat.{_≤_};
+ghost use Rattle.day.specs.Day.{termsOn, tieOn, isValid};
+ghost use Rattle.day.specs.Limits.{mostDays, figuresHold};
+ghost use Rattle.day.specs.Effects.{fixPrice, fixingAt, figuresAfter};
+ghost use Rattle.day.specs.Refusals.{isFull, firstMet, figuresRefusal};
+ghost use Rattle.day.specs.Outcome.{outcome};
+ghost use Rattle.day.specs.Inner.{RoomForTrade, Fixable};
+use crate::Day;
+use crate::Fixed;
+use crate::MOST_DAYS;
+use crate::call::Call;
+use crate::market::Market;
+use crate::market::Markets;
+use crate::outcome::Fixing;
+use crate::outcome::Outcome;
+use crate::product::Product;
+use crate::trade::Trade;
+use funding::Previous;
+use funding::Terms;
+use funding::none_or_price;
+use funding::none_or_ticked;
+use integers::Tie;
+
+// All that a book holds beside its account columns.
+pub struct Figures {
+    pub size: u32,
+    // closed days
+    pub closed: u32,
+    pub halted: bool,
+    pub previous: Previous,
+    pub day: Day,
+}
+
+impl Figures {
+    // The terms and the rule for ties in force on the open day.
+    fn terms(self) -> Terms
+        ensures { λ r. ⌜ r ≡ termsOn self ⌝ }
+    {
+        Product::terms()
+    }
+
+    fn tie(self) -> Tie
+        ensures { λ r. ⌜ r ≡ tieOn self ⌝ }
+    {
+        Tie::Even
+    }
+
+    // Whether the figures are within their limits.
+    pub fn holds(self) -> bool
+        ensures { λ r. ⌜ r ≡ figuresHold self ⌝ }
+    {
+        Product::is_size(self.size)
+            & (self.closed <= MOST_DAYS)
+            & none_or_price(self.previous.price)
+            & none_or_price(self.previous.index)
+            & self.day.holds()
+    }
+
+    // Whether the book has all the closed days that it may have, which allows no call.
+    fn is_full(self) -> bool
+        ensures { λ r. ⌜ r ≡ isFull self ⌝ }
+    {
+        MOST_DAYS <= self.closed
+    }
+
+    // The number of a quote's refusal, 0 for none.
+    fn quote_code(self, market: Market) -> u8
+        ensures { λ r. ⌜ r ≡ figuresRefusal self (Call.Quote market) ⌝ }
+    {
+        if self.is_full() {
+            return 3;
+        }
+        if self.halted {
+            return 4;
+        }
+        if !(none_or_ticked(market.bid) & none_or_ticked(market.offer)) {
+            return 5;
+        }
+        if !market.is_uncrossed() {
+            return 6;
+        }
+        0
+    }
+
+    pub fn quote(self, market: Market) -> Outcome
+        ensures { λ r. ⌜ r ≡ outcome self (Call.Quote market) ⌝ }
+    {
+        let code = self.quote_code(market);
+        if code != 0 {
+            return Outcome::unchanged(self, code);
+        }
+        let mut day = self.day;
+        day.markets = self.day.markets.quoted(market);
+        let mut after = self;
+        after.day = day;
+        Outcome::changed(after)
+    }
+
+    // The number of a trade's refusal where its accounts give none, 0 for none.
+    pub fn trade_code(self, t: Trade) -> u8
+        ensures { λ r. ⌜ r ≡ figuresRefusal self (Call.Trade t) ⌝ }
+    {
+        if self.is_full() {
+            return 3;
+        }
+        if self.halted {
+            return 4;
+        }
+        if t.is_outside() {
+            return 5;
+        }
+        0
+    }
+
+    // The figures after a trade. Room for it in n and in the gross is required.
+    pub fn traded(self, t: Trade) -> Figures
+        requires { ⌜ RoomForTrade (self .day .trades .settling) t ⌝ }
+        ensures { λ r. ⌜ r ≡ figuresAfter self (Call.Trade t) ⌝ }
+    {
+        let mut day = self.day;
+        day.trades = self.day.traded(t);
+        let mut after = self;
+        after.day = day;
+        after
+    }
+
+    // The number of a halt's or a resumption's refusal, 0 for none. The halt forbids the one, and that there is none the other.
+    fn halt_code(self, forbidden: bool) -> u8
+        ensures { λ r. ⌜ r ≡ firstMet ((3, isFull self) ∷ (4, forbidden) ∷ []) ⌝ }
+    {
+        if self.is_full() {
+            return 3;
+        }
+        if forbidden {
+            return 4;
+        }
+        0
+    }
+
+    pub fn halt(self) -> Outcome
+        ensures { λ r. ⌜ r ≡ outcome self Call.Halt ⌝ }
+    {
+        let code = self.halt_code(self.halted);
+        if code != 0 {
+            return Outcome::unchanged(self, code);
+        }
+        let mut day = self.day;
+        day.markets = Markets::none();
+        let mut after = self;
+        after.halted = true;
+        after.day = day;
+        Outcome::changed(after)
+    }
+
+    pub fn resume(self) -> Outcome
+        ensures { λ r. ⌜ r ≡ outcome self Call.Resume ⌝ }
+    {
+        let code = self.halt_code(!self.halted);
+        if code != 0 {
+            return Outcome::unchanged(self, code);
+        }
+        let mut after = self;
+        after.halted = false;
+        Outcome::changed(after)
+    }
+
+    // Whether the minute that ends with this index is valid.
+    fn is_valid(self, index: u32) -> bool
+        ensures { λ r. ⌜ r ≡ isValid (termsOn self) (self .halted) (self .day .markets .minute) index ⌝ }
+    {
+        let minute = self.day.markets.minute;
+        if self.halted {
+            return false;
+        }
+        if !minute.is_two_sided() {
+            return false;
+        }
+        if index == 0 {
+            return false;
+        }
+        funding::within_spread(minute.bid, minute.offer, self.terms())
+    }
+
+    // The number of a minute end's refusal, 0 for none.
+    fn minute_end_code(self, index: u32) -> u8
+        ensures { λ r. ⌜ r ≡ figuresRefusal self (Call.MinuteEnd index) ⌝ }
+    {
+        let day = self.day;
+        if self.is_full() | ((day.length() <= day.minutes.ended) | day.is_fixed()) {
+            return 3;
+        }
+        if !none_or_price(index) {
+            return 5;
+        }
+        0
+    }
+
+    // Figures within their limits are required, so that the weighted sum fits.
+    pub fn minute_end(self, index: u32) -> Outcome
+        requires { ⌜ figuresHold self ≡ true ⌝ }
+        ensures { λ r. ⌜ r ≡ outcome self (Call.MinuteEnd index) ⌝ }
+    {
+        let code = self.minute_end_code(index);
+        if code != 0 {
+            return Outcome::unchanged(self, code);
+        }
+        let mut day = self.day;
+        day.markets = self.day.markets.next_minute();
+        day.minutes = self.day.minute_ended(self.is_valid(index), index);
+        let mut after = self;
+        after.day = day;
+        Outcome::changed(after)
+    }
+
+    // What a fix with this set price finds. A gross and a size within their limits are required, so that the figures fit.
+    fn fixing(self, set: u32) -> Fixing
+        requires { ⌜ Fixable self ⌝ }
+        ensures { λ r. ⌜ r ≡ fixingAt self set ⌝ }
+    {
+        let day = self.day;
+        let price = funding::settlement_price(
+            set,
+            day.trades.settling,
+            day.minutes.index,
+            self.previous,
+        );
+        let rate = funding::rate(day.minutes.valid, day.minutes.weighted);
+        let clamped = funding::clamp(rate, self.terms());
+        Fixing {
+            price,
+            rate: clamped,
+            amount: funding::amount(clamped, price, self.size, self.tie()),
+            valid: day.minutes.valid,
+        }
+    }
+
+    // The number of a fix's refusal, 0 for none, where the price that it finds is this one.
+    fn fix_code(self, set: u32, price: u32) -> u8
+        requires { ⌜ price ≡ fixPrice self set ⌝ }
+        ensures { λ r. ⌜ r ≡ figuresRefusal self (Call.Fix set) ⌝ }
+    {
+        let day = self.day;
+        if self.is_full() | ((day.minutes.ended < day.length()) | day.is_fixed()) {
+            return 3;
+        }
+        if !none_or_price(set) {
+            return 5;
+        }
+        if !(price != 0) {
+            return 9;
+        }
+        0
+    }
+
+    pub fn fix(self, set: u32) -> Outcome
+        requires { ⌜ Fixable self ⌝ }
+        ensures { λ r. ⌜ r ≡ outcome self (Call.Fix set) ⌝ }
+    {
+        let fixing = self.fixing(set);
+        let code = self.fix_code(set, fixing.price);
+        if code != 0 {
+            return Outcome::unchanged(self, code);
+        }
+        let mut day = self.day;
+        let fixed = Fixed {
+            price: fixing.price,
+            amount: fixing.amount,
+        };
+        day.fixed = fixed;
+        let mut after = self;
+        after.day = day;
+        Outcome {
+            code: 0,
+            fixing,
+            figures: after,
+        }
+    }
+
+    // The number of a close's refusal, 0 for none.
+    pub fn close_code(self) -> u8
+        ensures { λ r. ⌜ r ≡ figuresRefusal self Call.Close ⌝ }
+    {
+        if self.is_full() | !self.day.is_fixed() {
+            3
+        } else {
+            0
+        }
+    }
+
+    // The figures after a close.
+    pub fn closed_day(self) -> Figures
+        requires { ⌜ self .closed ≤ mostDays ⌝ }
+        ensures { λ r. ⌜ r ≡ figuresAfter self Call.Close ⌝ }
+    {
+        Figures {
+            size: self.size,
+            closed: self.closed + 1,
+            halted: self.halted,
+            previous: Previous {
+                price: self.day.fixed.price,
+                index: self.day.minutes.index,
+            },
+            day: Day::empty(),
+        }
+    }
+}

@@ -1,0 +1,204 @@
+// One trade date of a contract by its parts: what quotes, minute ends, trades and a fix leave of it.
+ghost use mathlib.Core.Path.{_≡_};
+ghost use mathlib.Core.Bool.{cond};
+ghost use Prim.Native.Nat.{_+_, _≤_};
+ghost use Rattle.funding.specs.Minute.{mostMinutes};
+ghost use Rattle.day.specs.Day.{dayLength, emptyDay, isFixed, inLastMinute};
+ghost use Rattle.day.specs.Limits.{minutesHold, pricesHold, fixHolds, dayHolds};
+ghost use Rattle.day.specs.Effects.{traded, weightedAfter, minuteEnded};
+ghost use Rattle.day.specs.Inner.{RoomForTrade, Endable};
+use funding::FinalMinute;
+use funding::MOST_MINUTES;
+use funding::none_or_price;
+use integers::is_within;
+use market::Markets;
+use trade::Trade;
+
+pub mod call;
+pub mod figures;
+pub mod market;
+pub mod outcome;
+pub mod product;
+pub mod trade;
+
+pub const MOST_DAYS: u32 = 2_600;
+
+pub const MOST_AMOUNT: u64 = 10_000;
+
+// What minute ends set.
+pub struct Minutes {
+    // ended minutes
+    pub ended: u32,
+    // valid count k, and weighted sum S
+    pub valid: u32,
+    pub weighted: i64,
+    // the u of the last minute
+    pub index: u32,
+}
+
+// What trades set.
+pub struct Trades {
+    // the last trade
+    pub last: u32,
+    // n and gross
+    pub settling: FinalMinute,
+}
+
+// What a fix sets. A price of 0 means that the day isn't fixed.
+pub struct Fixed {
+    pub price: u32,
+    pub amount: i64,
+}
+
+// The day's figures, which a close empties. A price, an index or a side is 0 where there is none.
+pub struct Day {
+    pub markets: Markets,
+    pub minutes: Minutes,
+    pub trades: Trades,
+    pub fixed: Fixed,
+}
+
+impl Day {
+    pub(crate) fn empty() -> Self
+        ensures { λ r. ⌜ r ≡ emptyDay ⌝ }
+    {
+        Self {
+            markets: Markets::none(),
+            minutes: Minutes {
+                ended: 0,
+                valid: 0,
+                weighted: 0,
+                index: 0,
+            },
+            trades: Trades {
+                last: 0,
+                settling: FinalMinute {
+                    contracts: 0,
+                    gross: 0,
+                },
+            },
+            fixed: Fixed {
+                price: 0,
+                amount: 0,
+            },
+        }
+    }
+
+    // The minutes of the day.
+    pub(crate) fn length(self) -> u32
+        ensures { λ r. ⌜ r ≡ dayLength self ⌝ }
+    {
+        MOST_MINUTES
+    }
+
+    pub(crate) fn is_fixed(self) -> bool
+        ensures { λ r. ⌜ r ≡ isFixed self ⌝ }
+    {
+        self.fixed.price != 0
+    }
+
+    fn is_in_last_minute(self) -> bool
+        ensures { λ r. ⌜ r ≡ inLastMinute (dayLength self) (self .minutes .ended) ⌝ }
+    {
+        self.minutes.ended as u64 + 1 == self.length() as u64
+    }
+
+    fn minutes_hold(self) -> bool
+        ensures { λ r. ⌜ r ≡ minutesHold self ⌝ }
+    {
+        let minutes = self.minutes;
+        if (minutes.ended <= self.length()) & (minutes.valid <= minutes.ended) {
+            is_within(minutes.weighted, funding::weighted_limit(minutes.valid))
+        } else {
+            false
+        }
+    }
+
+    fn prices_hold(self) -> bool
+        ensures { λ r. ⌜ r ≡ pricesHold self ⌝ }
+    {
+        none_or_price(self.trades.last)
+            & none_or_price(self.minutes.index)
+            & none_or_price(self.fixed.price)
+            & is_within(self.fixed.amount, MOST_AMOUNT)
+    }
+
+    fn fix_holds(self) -> bool
+        ensures { λ r. ⌜ r ≡ fixHolds self ⌝ }
+    {
+        !self.is_fixed() | (self.minutes.ended == self.length())
+    }
+
+    // Whether the day is within its limits.
+    pub(crate) fn holds(self) -> bool
+        ensures { λ r. ⌜ r ≡ dayHolds self ⌝ }
+    {
+        self.minutes_hold() & self.markets.holds() & self.prices_hold() & self.fix_holds()
+    }
+
+    // What trades set, after one more. Room for it in n and in the gross is required.
+    pub(crate) fn traded(self, t: Trade) -> Trades
+        requires { ⌜ RoomForTrade (self .trades .settling) t ⌝ }
+        ensures { λ r. ⌜ r ≡ traded self t ⌝ }
+    {
+        let mut after = self.trades;
+        after.last = t.price;
+        if self.is_in_last_minute() & (t.kind == Trade::SIMPLE) {
+            let settling = FinalMinute {
+                contracts: self.trades.settling.contracts + t.quantity,
+                gross: self.trades.settling.gross + t.quantity as u64 * t.price as u64,
+            };
+            after.settling = settling;
+        }
+        after
+    }
+
+    // The weighted sum after a minute, valid or not.
+    fn weighted_after(self, valid: bool, index: u32) -> i64
+        requires { ⌜ Endable self valid index ⌝ }
+        ensures { λ r. ⌜ r ≡ weightedAfter self valid index ⌝ }
+    {
+        if valid {
+            let minute = self.markets.minute;
+            let futures = funding::futures_price(minute.bid, minute.offer, self.trades.last);
+            let basis = funding::basis(futures, index);
+            funding::accrue(self.minutes.weighted, self.minutes.valid, basis)
+        } else {
+            self.minutes.weighted
+        }
+    }
+
+    fn valid_after(self, valid: bool) -> u32
+        requires { ⌜ self .minutes .valid ≤ mostMinutes ⌝ }
+        ensures { λ r. ⌜ r ≡ cond valid (self .minutes .valid + 1) (self .minutes .valid) ⌝ }
+    {
+        if valid {
+            self.minutes.valid + 1
+        } else {
+            self.minutes.valid
+        }
+    }
+
+    fn index_after(self, index: u32) -> u32
+        ensures { λ r. ⌜ r ≡ cond (inLastMinute (dayLength self) (self .minutes .ended)) index (self .minutes .index) ⌝ }
+    {
+        if self.is_in_last_minute() {
+            index
+        } else {
+            self.minutes.index
+        }
+    }
+
+    // What minute ends set, after one more.
+    pub(crate) fn minute_ended(self, valid: bool, index: u32) -> Minutes
+        requires { ⌜ Endable self valid index ⌝ }
+        ensures { λ r. ⌜ r ≡ minuteEnded self valid index ⌝ }
+    {
+        let mut after = self.minutes;
+        after.index = self.index_after(index);
+        after.weighted = self.weighted_after(valid, index);
+        after.valid = self.valid_after(valid);
+        after.ended = self.minutes.ended + 1;
+        after
+    }
+}
