@@ -6,6 +6,7 @@ use Prim.Native.Nat.{ℕ}
 use lib.IntN.{ℤ, pos, negℤ}
 use lib.ListN.{length}
 use Rattle.integers.specs.declared.Tie.the-variants.{Even}
+use Rattle.integers.specs.Lists.{Every}
 use Rattle.funding.specs.Terms.{standardTerms}
 use Rattle.funding.specs.Minute.{withinSpread, basisOf, Minute, weightedSum}
 use Rattle.funding.specs.Fixing.{rateOf, clampedTo, amountOf}
@@ -29,10 +30,6 @@ Holds (rate minutes result) = rateOf (length minutes) (weightedSum (reverse minu
 Holds (clamped r result) = clampedTo standardTerms r ≡ result
 Holds (amount r P size result) = amountOf Even r P size ≡ result
 Holds (spread b a result) = withinSpread standardTerms b a ≡ result
-
-abbrev pub Every : List Row → Type 0
-Every [] = Unit {0}
-Every (row ∷ rows) = Holds row × Every rows
 
 abbrev minute : ℕ → ℕ → Minute
 minute F u = record { F = F; u = u }
@@ -72,4 +69,4 @@ table =
 
 -- every row of the table holds: proved by computation in proofs/Table.antt
 abbrev pub TableHolds : Type 0
-TableHolds = Every table
+TableHolds = Every Holds table

@@ -8,41 +8,40 @@ use native.Mathlib.Numerals.{add-one}
 use lib.Dec.{eqb}
 use lib.IntN.{ℤ, pos, negℤ, _+ℤ_, _-ℤ_, _*ℤ_, +ℤ-assoc, +ℤ-invr}
 use lib.ListN.{length, replicate}
+use Rattle.integers.specs.Lists.{keepIf, sumCount, sum}
 use Rattle.integers.proofs.Ring.{ring, _⊕_, _⊖_, _⊗_, ⊝_, num}
 use Rattle.funding.specs.Minute.{weightedSum}
-use Rattle.ledger.specs.declared.Trade.{Trade}
-use Rattle.ledger.specs.declared.Call.{Call}
-use Rattle.ledger.specs.declared.Call.the-variants as call
-use Rattle.ledger.specs.declared.Day.{Day}
-use Rattle.ledger.specs.declared.Figures.{Figures}
+use Rattle.day.specs.declared.trade.Trade.{Trade}
+use Rattle.day.specs.declared.call.Call.{Call}
+use Rattle.day.specs.declared.call.Call.the-variants as call
+use Rattle.day.specs.declared.Day.{Day}
+use Rattle.day.specs.declared.figures.Figures.{Figures}
+use Rattle.day.specs.Day.{emptyDay, isFinal, minuteOf}
+use Rattle.day.specs.Effects.{traded, minuteEnded, figuresAfter}
+use Rattle.day.proofs.Calls.{TradeOr, trade, CloseOr, close, trade-or, close-or}
+use Rattle.day.proofs.Calls as calls
 use Rattle.ledger.specs.declared.Book.{Book}
 use Rattle.ledger.specs.Columns.{raise, raiseCount, table}
-use Rattle.ledger.specs.Day.{emptyDay, isFinal, minuteOf}
 use Rattle.ledger.specs.Opening.{fresh}
-use Rattle.ledger.specs.Effects.{traded, minuteEnded, figuresAfter, exchanged, counted, posting, cashAfter, effect}
+use Rattle.ledger.specs.Effects.{withFigures, tradedBook, closedBook, exchanged, counted, posting, cashAfter, effect}
 use Rattle.ledger.proofs.Columns.{table-at}
-use Rattle.history.specs.History.{History, halted, market, minuteMarket, last, closings, today, closedPart, withIf, trades, minuteEnds, fixes, minutes, endsValid, validOf, validMinutes, finalTrades}
-use Rattle.history.specs.Figures.{sumCount, sum, finalMinute, indexOf, indexOn, atFix, previousOf, priceOn, lastPrice, amountOn, at, signed, net, yield, paid, cashOf}
+use Rattle.history.specs.History.{History, lengthOf, halted, market, minuteMarket, last, closings, today, closedPart, trades, minuteEnds, fixes, minutes, endsValid, validOf, validMinutes, finalTrades}
+use Rattle.history.specs.Settlements.{finalMinute, indexOf, indexOn, atFix, previousOf, priceOn, lastPrice, amountOn}
+use Rattle.history.specs.Cash.{ofAccount, signed, net, yield, paid, cashOf}
 use Rattle.history.proofs.Columns.{table-ext, replicate-table, raise-table, raiseCount-table}
 
 -- ---- the book of a history
 
-abbrev pub dayOf : ℕ → History → Day
-dayOf s h = record {
-  minutes = minutes h;
-  valid = length (validMinutes h);
-  weighted = weightedSum (validMinutes h);
-  market = market h;
-  minute = minuteMarket h;
-  last = last h;
-  traded = finalMinute (finalTrades h);
-  index = indexOn h;
-  price = priceOn h;
-  amount = amountOn s h;
+abbrev pub dayFrom : ℕ → History → Day
+dayFrom s h = record {
+  markets = record { standing = market h; minute = minuteMarket h };
+  minutes = record { ended = minutes h; valid = length (validMinutes h); weighted = weightedSum (validMinutes h); index = indexOn h };
+  trades = record { last = last h; settling = finalMinute (finalTrades h) };
+  fixed = record { price = priceOn h; amount = amountOn s h };
 }
 
-abbrev pub figuresOf : ℕ → History → Figures
-figuresOf s h = record { size = s; closed = length (closings h); halted = halted h; previous = previousOf (closings h); day = dayOf s h }
+abbrev pub figuresFrom : ℕ → History → Figures
+figuresFrom s h = record { size = s; closed = length (closings h); halted = halted h; previous = previousOf (closings h); day = dayFrom s h }
 
 -- account j's signed quantity × price of a trade, of all trades, and of today's
 abbrev pub priced : ℕ → Trade → ℤ
@@ -61,9 +60,9 @@ turnover j t = cond (eqb (t .buyer) j) (t .quantity) 0 + cond (eqb (t .seller) j
 abbrev pub volumeOf : History → ℕ → ℕ
 volumeOf h j = sumCount (turnover j) (trades (today h))
 
-abbrev pub bookOf : ℕ → ℕ → History → Book
-bookOf n s h = record {
-  figures = figuresOf s h;
+abbrev pub bookFrom : ℕ → ℕ → History → Book
+bookFrom n s h = record {
+  figures = figuresFrom s h;
   opening = table n (net (closedPart (closings h)));
   position = table n (net h);
   cost = table n (costOf h);
@@ -73,54 +72,63 @@ bookOf n s h = record {
 
 -- ---- the figures, call by call
 
-if-ap : {A B : Type 0} (f : List A → B) (t : Bool) (x : A) (l : List A) → cond t (f (x ∷ l)) (f l) ≡ f (withIf t x l)
-unfolding withIf
+if-ap : {A B : Type 0} (f : List A → B) (t : Bool) (x : A) (l : List A) → cond t (f (x ∷ l)) (f l) ≡ f (keepIf t x l)
 if-ap f true x l = refl
 if-ap f false x l = refl
 
 module _ (s : ℕ) (h : History) where
-  final-after : (t : Trade) → traded (dayOf s h) t .traded ≡ finalMinute (finalTrades (call.Trade t ∷ h))
+  final-after : (t : Trade) → traded (dayFrom s h) t .settling ≡ finalMinute (finalTrades (call.Trade t ∷ h))
   unfolding finalTrades sumCount
-  final-after t = if-ap finalMinute (isFinal (minutes h) t) t (finalTrades h)
+  final-after t = if-ap finalMinute (isFinal (lengthOf h) (minutes h) t) t (finalTrades h)
 
-  -- whether the minute that ends with the index u is valid, and the day after it
+  -- whether the minute that ends with the index u is valid
   abbrev ends : ℕ → Bool
   ends u = endsValid (record { value = u; before = h })
 
-  abbrev ended : ℕ → Day
-  ended u = minuteEnded (dayOf s h) (ends u) u
-
-  valid-after : (u : ℕ) → ended u .valid ≡ length (validMinutes (call.MinuteEnd u ∷ h))
+  valid-after : (u : ℕ) → minuteEnded (dayFrom s h) (ends u) u .valid ≡ length (validMinutes (call.MinuteEnd u ∷ h))
   unfolding minuteEnds validOf
   valid-after u =
       ap (λ k. cond (ends u) k (length (validMinutes h))) (add-one (length (validMinutes h))) ∙ if-ap length (ends u) (minuteOf (minuteMarket h) (last h) u) (validMinutes h)
 
-  weighted-after : (u : ℕ) → ended u .weighted ≡ weightedSum (validMinutes (call.MinuteEnd u ∷ h))
+  weighted-after : (u : ℕ) → minuteEnded (dayFrom s h) (ends u) u .weighted ≡ weightedSum (validMinutes (call.MinuteEnd u ∷ h))
   unfolding minuteEnds validOf weightedSum
   weighted-after u = if-ap weightedSum (ends u) (minuteOf (minuteMarket h) (last h) u) (validMinutes h)
 
-  figures-after : (c : Call) → figuresAfter (figuresOf s h) c ≡ figuresOf s (c ∷ h)
+  pub figures-after : (c : Call) → figuresAfter (figuresFrom s h) c ≡ figuresFrom s (c ∷ h)
   unfolding figuresAfter halted market minuteMarket last closings minuteEnds fixes finalTrades indexOf atFix previousOf validOf sumCount weightedSum
   figures-after (call.Quote m) = refl
   figures-after (call.Trade t) = cc (final-after t)
   figures-after call.Halt = refl
   figures-after call.Resume = refl
-  figures-after (call.MinuteEnd u) = cc (add-one (minutes h), valid-after u, weighted-after u)
+  figures-after (call.MinuteEnd u) =
+      let f = figuresAfter (figuresFrom s h) (call.MinuteEnd u) in
+      let d = f .day in
+      λ i. record {
+        size = s;
+        closed = f .closed;
+        halted = f .halted;
+        previous = f .previous;
+        day = record {
+          markets = d .markets;
+          minutes = record { ended = add-one (minutes h) i; valid = valid-after u i; weighted = weighted-after u i; index = d .minutes .index };
+          trades = d .trades;
+          fixed = d .fixed;
+        };
+      }
   figures-after (call.Fix set) = refl
-  figures-after call.Close =
-      λ i. record { size = s; closed = add-one (length (closings h)) i; halted = halted h; previous = record { price = priceOn h; index = indexOn h }; day = emptyDay }
+  figures-after call.Close = cc (add-one (length (closings h)))
 
 -- ---- the columns after a trade
 
 -- what a trade moves to the buyer from the seller, at the account j
 abbrev moved : Trade → ℕ → ℕ → ℤ
-moved t a j = at (t .buyer) j (pos a) +ℤ at (t .seller) j (negℤ (pos a))
+moved t a j = ofAccount (t .buyer) j (pos a) +ℤ ofAccount (t .seller) j (negℤ (pos a))
 
 exchanged-table : (n : ℕ) (f : ℕ → ℤ) (t : Trade) (a : ℕ) → exchanged (table n f) t a ≡ table n (λ j. f j +ℤ moved t a j)
 exchanged-table n f t a =
     ap (λ (l : List ℤ). raise l (t .seller) (negℤ (pos a))) (raise-table n (t .buyer) (pos a) f)
-    ∙ raise-table n (t .seller) (negℤ (pos a)) (λ j. f j +ℤ at (t .buyer) j (pos a))
-    ∙ table-ext n _ _ (λ j k. +ℤ-assoc (f j) (at (t .buyer) j (pos a)) (at (t .seller) j (negℤ (pos a))))
+    ∙ raise-table n (t .seller) (negℤ (pos a)) (λ j. f j +ℤ ofAccount (t .buyer) j (pos a))
+    ∙ table-ext n _ _ (λ j k. +ℤ-assoc (f j) (ofAccount (t .buyer) j (pos a)) (ofAccount (t .seller) j (negℤ (pos a))))
 
 counted-table : (n : ℕ) (f : ℕ → ℕ) (t : Trade) → counted (table n f) t ≡ table n (λ j. f j + turnover j t)
 counted-table n f t =
@@ -159,13 +167,13 @@ gains s P j (t ∷ ts) = ap (λ z. z +ℤ yield s P j t) (gains s P j ts) ∙ re
     regroup = ring 6 (λ n w q p P s. (n ⊗ P ⊖ w) ⊗ s ⊕ q ⊗ (P ⊖ p) ⊗ s) (λ n w q p P s. ((n ⊕ q) ⊗ P ⊖ (w ⊕ q ⊗ p)) ⊗ s) refl
 
 -- what the account j had, what the close of h posts to it, and what it has then
-cash-closed : (n s : ℕ) (h : History) (j : ℕ) → j < n → cashAfter (bookOf n s h) j ≡ cashOf s (call.Close ∷ h) j
+cash-closed : (n s : ℕ) (h : History) (j : ℕ) → j < n → cashAfter (bookFrom n s h) j ≡ cashOf s (call.Close ∷ h) j
 unfolding closings closedPart previousOf trades sum
 cash-closed n s h j k =
     let before = closedPart (closings h) in
     let paidBefore = sum (paid s j) (closings h) in
     cc (table-at n (cashOf s h) j (pos 0) k, table-at n (net h) j (pos 0) k, table-at n (net before) j (pos 0) k, table-at n (costOf h) j (pos 0) k)
-    ∙ ap (λ z. z +ℤ paidBefore +ℤ posting (figuresOf s h) (net h j) (net before j) (costOf h j)) (gains s (lastPrice h) j (trades before))
+    ∙ ap (λ z. z +ℤ paidBefore +ℤ posting (figuresFrom s h) (net h j) (net before j) (costOf h j)) (gains s (lastPrice h) j (trades before))
     ∙ telescope (net h j) (pos (priceOn h)) (worth h j) (net before j) (pos (lastPrice h)) (worth before j) (pos s) paidBefore (amountOn s h)
     ∙ ap (λ z. z +ℤ (paidBefore +ℤ paid s j h)) (sym (gains s (priceOn h) j (trades h)))
   where
@@ -183,17 +191,31 @@ cost-closed n h = replicate-table n (pos 0) ∙ table-ext n (λ j. pos 0) (costO
 
 -- ---- the book, call by call
 
-pub effect-is : (n s : ℕ) (h : History) (c : Call) → effect n (bookOf n s h) c ≡ bookOf n s (c ∷ h)
-unfolding effect figuresAfter closings today closedPart trades sumCount sum
-effect-is n s h (call.Quote m) = cc (figures-after s h (call.Quote m))
-effect-is n s h (call.Trade t) = cc (figures-after s h (call.Trade t), exchanged-table n (net h) t (t .quantity), cost-traded n h t, counted-table n (volumeOf h) t)
-effect-is n s h call.Halt = cc (figures-after s h call.Halt)
-effect-is n s h call.Resume = cc (figures-after s h call.Resume)
-effect-is n s h (call.MinuteEnd u) = cc (figures-after s h (call.MinuteEnd u))
-effect-is n s h (call.Fix set) = cc (figures-after s h (call.Fix set))
-effect-is n s h call.Close =
-    cc (figures-after s h call.Close, cost-closed n h, replicate-table {A = ℕ} n 0, table-ext n (cashAfter (bookOf n s h)) (cashOf s (call.Close ∷ h)) (cash-closed n s h))
+pub effect-is : (n s : ℕ) (h : History) (c : Call) → effect n (bookFrom n s h) c ≡ bookFrom n s (c ∷ h)
+unfolding effect closings today closedPart trades sumCount sum
+effect-is n s h c = by (trade-or c) (close-or c)
+  where
+    by : TradeOr c → CloseOr c → effect n (bookFrom n s h) c ≡ bookFrom n s (c ∷ h)
+    by (trade t e) k = rw e (cc (figures-after s h (call.Trade t), exchanged-table n (net h) t (t .quantity), cost-traded n h t, counted-table n (volumeOf h) t))
+    by (calls.TradeOr.other o) (close e) =
+        rw e
+        (cc (figures-after s h call.Close, cost-closed n h, replicate-table {A = ℕ} n 0, table-ext n (cashAfter (bookFrom n s h)) (cashOf s (call.Close ∷ h)) (cash-closed n s h)))
+    by (calls.TradeOr.other o) (calls.CloseOr.other k) =
+        let b = bookFrom n s h in
+        let f = figuresAfter (figuresFrom s h) c in
+        let days : closings h ≡ closings (c ∷ h) = sym (k (List History) (h ∷ closings h) (closings h)) in
+        let all : trades h ≡ trades (c ∷ h) = sym (o (List Trade) (λ t. t ∷ trades h) (trades h)) in
+        let todays : trades (today h) ≡ trades (today (c ∷ h)) = sym (ap trades (k History [] (c ∷ today h)) ∙ o (List Trade) (λ t. t ∷ trades (today h)) (trades (today h))) in
+        o Book (tradedBook b f) _ ∙ k Book (closedBook n b f) (withFigures b f)
+        ∙ (λ i. record {
+          figures = figures-after s h c i;
+          opening = table n (net (closedPart (days i)));
+          position = table n (λ j. sum (signed j) (all i));
+          cost = table n (λ j. sum (priced j) (all i) -ℤ worth (closedPart (days i)) j);
+          volume = table n (λ j. sumCount (turnover j) (todays i));
+          cash = table n (λ j. sum (yield s (previousOf (days i) .price) j) (trades (closedPart (days i))) +ℤ sum (paid s j) (days i));
+        })
 
-pub fresh-is : (n s : ℕ) → fresh n s ≡ bookOf n s []
+pub fresh-is : (n s : ℕ) → fresh n s ≡ bookFrom n s []
 unfolding halted market minuteMarket last closings today closedPart trades minuteEnds fixes validOf finalTrades sumCount sum indexOf atFix previousOf weightedSum
 fresh-is n s = cc (replicate-table n (pos 0), replicate-table {A = ℕ} n 0)

@@ -9,8 +9,9 @@ use lib.Dec.{eqb·suc-suc}
 use lib.IntN.{ℤ, pos, _+ℤ_, _*ℤ_, zero-*ℤ, +ℤ-idl, +ℤ-idr}
 use Rattle.integers.proofs.Ring.{ring, _⊕_, _⊗_}
 use Rattle.ledger.specs.Columns.{table}
-use Rattle.history.specs.Figures.{sum, at}
-use Rattle.history.specs.Demand3.{Every, total}
+use Rattle.integers.specs.Lists.{Every, sum}
+use Rattle.history.specs.Cash.{ofAccount}
+use Rattle.history.specs.Demand3.{total}
 use Rattle.history.proofs.Columns.{table-ext, at-same, at-other}
 
 -- ---- the sum of f over n accounts
@@ -37,15 +38,15 @@ all-mul (suc n) f c =
     ap (λ z. z +ℤ f 0 *ℤ c) (all-mul n (λ j. f (suc j)) c) ∙ ring 3 (λ a x c. a ⊗ c ⊕ x ⊗ c) (λ a x c. (a ⊕ x) ⊗ c) refl (overAll n (λ j. f (suc j))) (f 0) c
 
 -- the one account is counted once
-pub all-at : (n i : ℕ) (z : ℤ) → i < n → overAll n (λ j. at i j z) ≡ z
+pub all-account : (n i : ℕ) (z : ℤ) → i < n → overAll n (λ j. ofAccount i j z) ≡ z
 unfolding sum table
-all-at zero i z h = absurd (not-suc-le-zero h)
-all-at (suc n) zero z h =
-    ap₂ _+ℤ_ (ap total (table-ext n (λ j. at 0 (suc j) z) (λ j. pos 0) (λ j k. at-other 0 (suc j) z (pos 0) (omega arith))) ∙ all-zero n) (at-same 0 z (pos 0))
+all-account zero i z h = absurd (not-suc-le-zero h)
+all-account (suc n) zero z h =
+    ap₂ _+ℤ_ (ap total (table-ext n (λ j. ofAccount 0 (suc j) z) (λ j. pos 0) (λ j k. at-other 0 (suc j) z (pos 0) (omega arith))) ∙ all-zero n) (at-same 0 z (pos 0))
     ∙ +ℤ-idl z
-all-at (suc n) (suc i) z h =
+all-account (suc n) (suc i) z h =
     ap₂ _+ℤ_
-    (ap total (table-ext n (λ j. at (suc i) (suc j) z) (λ j. at i j z) (λ j k. ap (λ t. cond t z (pos 0)) (eqb·suc-suc i j))) ∙ all-at n i z (le-of-suc-le-suc h))
+    (ap total (table-ext n (λ j. ofAccount (suc i) (suc j) z) (λ j. ofAccount i j z) (λ j k. ap (λ t. cond t z (pos 0)) (eqb·suc-suc i j))) ∙ all-account n i z (le-of-suc-le-suc h))
     (at-other (suc i) 0 z (pos 0) (omega arith))
     ∙ +ℤ-idr z
 

@@ -1,3 +1,4 @@
 pub mod History
-pub mod Figures
+pub mod Settlements
+pub mod Cash
 pub mod Demand3

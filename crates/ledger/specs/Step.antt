@@ -1,8 +1,9 @@
 -- A call, and a list of calls, on a book of n accounts.
-use mathlib.Core.Bool.{Bool, true, false, cond}
+use mathlib.Core.Bool.{Bool, cond}
 use mathlib.Core.List.{List, [], _∷_}
 use Prim.Native.Nat.{ℕ}
 use lib.Dec.{eqb}
+use Rattle.integers.specs.Lists.{keepIf}
 use Rattle.day.specs.declared.call.Call.{Call}
 use Rattle.day.specs.Effects.{noFixing, fixingOf}
 use Rattle.ledger.specs.declared.Book.{Book}
@@ -30,11 +31,6 @@ step n b c = answerBy (refusal n b c) n b c
 unfoldable pub run : ℕ → Book → List Call → Book
 run n b [] = b
 run n b (c ∷ cs) = run n (step n b c .book) cs
-
--- x before a list, where the test is met
-abbrev pub keepIf : {A : Type 0} → Bool → A → List A → List A
-keepIf true x l = x ∷ l
-keepIf false x l = l
 
 -- the accepted calls of a list, in its order
 unfoldable pub acceptedCalls : ℕ → Book → List Call → List Call
