@@ -9,7 +9,7 @@ use native.Mathlib.Omega.{arith}
 use borrow.Author.Tests.{ltb-false}
 use lib.ListN.{length}
 use lib.Dec.{ltb, leb, eqb}
-use Rattle.funding.proofs.Tests.{by-test}
+use Rattle.integers.proofs.Tests.{by-test}
 use Rattle.dayfile.specs.declared.Tagged.{Tagged}
 use Rattle.dayfile.specs.declared.Tagged.the-variants as tagged
 use Rattle.dayfile.specs.declared.Read.{Read}

@@ -3,7 +3,7 @@
 --     cut-off     a record that ends past the file's end
 --     whole       a complete record
 --     right-length, wrong-length     a complete record of a known tag
---     stood, stands-known     a record that stands is complete, and is read as its call
+--     record-at, known-at     a record at a place is complete, and is read as its call
 -- Assumes nothing.
 use Prim.Native.Nat.{ℕ, _+_, _≤_, _<_}
 use mathlib.Core.Path.{_≡_, refl, _∙_, ap}
@@ -13,12 +13,12 @@ use native.Mathlib.Omega.{arith}
 use borrow.Author.Tests.{leb-true, eqb-true, le-leb, lt-leb, lt-ltb, le-ltb, eq-eqb, ne-eqb}
 use lib.Dec.{leb, eqb}
 use lib.ListN.{length}
-use Rattle.funding.proofs.Tests.{both-true}
+use Rattle.integers.proofs.Tests.{both-true}
 use Rattle.dayfile.specs.declared.Tag.{Tag}
 use Rattle.dayfile.specs.declared.Tag.the-variants as tag
 use Rattle.dayfile.specs.declared.Tagged.the-variants as tagged
 use Rattle.dayfile.specs.declared.Read.the-variants as read
-use Rattle.dayfile.specs.Record.{byteAt, tagOf, byteOf, standsAt, bodyLength, callOf, bodyAt, statedLength, nextAt, complete, readAt}
+use Rattle.dayfile.specs.Record.{byteAt, tagOf, byteOf, isRecordAt, bodyLength, callOf, bodyAt, statedLength, nextAt, complete, readAt}
 
 module _ (file : List ℕ) (at : ℕ) where
   pub at-end : length file ≤ at → readAt file at ≡ read.End
@@ -52,8 +52,8 @@ module _ (file : List ℕ) (at : ℕ) where
   byte-read tag.Fix = refl
   byte-read tag.Close = refl
 
-  -- the three tests of a record that stands
-  tests : (t : Tag) → standsAt file at t ≡ true → (bodyAt at + bodyLength t ≤ length file) × (byteAt file at ≡ byteOf t) × (statedLength file at ≡ bodyLength t)
+  -- the three tests of a record at a place
+  tests : (t : Tag) → isRecordAt file at t ≡ true → (bodyAt at + bodyLength t ≤ length file) × (byteAt file at ≡ byteOf t) × (statedLength file at ≡ bodyLength t)
   tests t h =
       let fits = leb (bodyAt at + bodyLength t) (length file) in
       let byte = eqb (byteAt file at) (byteOf t) in
@@ -62,11 +62,11 @@ module _ (file : List ℕ) (at : ℕ) where
       let j = both-true fits byte (k .0) in
       (leb-true (bodyAt at + bodyLength t) (length file) (j .0), eqb-true (byteAt file at) (byteOf t) (j .1), eqb-true (statedLength file at) (bodyLength t) (k .1))
 
-  pub stood : (t : Tag) → standsAt file at t ≡ true → bodyAt at + bodyLength t ≤ length file
-  stood t h = tests t h .0
+  pub record-at : (t : Tag) → isRecordAt file at t ≡ true → bodyAt at + bodyLength t ≤ length file
+  record-at t h = tests t h .0
 
-  pub stands-known : (t : Tag) → standsAt file at t ≡ true → readAt file at ≡ read.Known (bodyAt at + bodyLength t) (callOf file t (bodyAt at))
-  stands-known t h =
+  pub known-at : (t : Tag) → isRecordAt file at t ≡ true → readAt file at ≡ read.Known (bodyAt at + bodyLength t) (callOf file t (bodyAt at))
+  known-at t h =
       let k = tests t h in
       let stated = k .2 in
       whole (omega (arith, k .0, stated)) ∙ right-length t (ap tagOf (k .1) ∙ byte-read t) stated

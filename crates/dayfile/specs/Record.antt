@@ -4,10 +4,10 @@ use mathlib.Core.List.{List}
 use mathlib.Core.Bool.{Bool, cond, _&&_}
 use lib.ListN.{length, getD}
 use lib.Dec.{ltb, leb, eqb}
-use Rattle.ledger.specs.declared.Call.{Call}
-use Rattle.ledger.specs.declared.Call.the-variants as call
-use Rattle.ledger.specs.declared.Trade.{Trade}
-use Rattle.ledger.specs.declared.Market.{Market}
+use Rattle.day.specs.declared.call.Call.{Call}
+use Rattle.day.specs.declared.call.Call.the-variants as call
+use Rattle.day.specs.declared.trade.Trade.{Trade}
+use Rattle.day.specs.declared.market.Market.{Market}
 use Rattle.dayfile.specs.declared.Tag.{Tag}
 use Rattle.dayfile.specs.declared.Tag.the-variants as tag
 use Rattle.dayfile.specs.declared.Tagged.{Tagged}
@@ -110,5 +110,5 @@ readAt file at =
 
 -- whether a complete record of this tag and of its length stands at a place: `readAt` then gives its call (proved in
 -- proofs/Reading.antt)
-abbrev pub standsAt : List ℕ → ℕ → Tag → Bool
-standsAt file at t = leb (bodyAt at + bodyLength t) (length file) && eqb (byteAt file at) (byteOf t) && eqb (statedLength file at) (bodyLength t)
+abbrev pub isRecordAt : List ℕ → ℕ → Tag → Bool
+isRecordAt file at t = leb (bodyAt at + bodyLength t) (length file) && eqb (byteAt file at) (byteOf t) && eqb (statedLength file at) (bodyLength t)

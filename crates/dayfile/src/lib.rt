@@ -3,10 +3,10 @@ ghost use mathlib.Core.Path.{_≡_};
 ghost use Prim.Native.Nat.{_+_, _≤_, _<_};
 ghost use lib.ListN.{length};
 ghost use Rattle.dayfile.specs.Record.{byteAt, twoBytes, fourBytes, tagOf, bodyLength, tradeAt, quoteAt, callOf};
-ghost use Rattle.dayfile.specs.Record.{statedLength, complete, readAt, byteOf, standsAt};
-use ledger::Call;
-use ledger::Market;
-use ledger::Trade;
+ghost use Rattle.dayfile.specs.Record.{statedLength, complete, readAt, byteOf, isRecordAt};
+use day::call::Call;
+use day::market::Market;
+use day::trade::Trade;
 
 // The bytes of a tag and a length.
 pub const HEAD: usize = 3;
@@ -138,8 +138,8 @@ fn byte_of(tag: Tag) -> u8
 
 // Whether a complete record of this tag and of its length stands at a place. The place is compared with the last one at which it
 // could start, which is the same at every record of a file.
-pub fn stands(file: &[u8], at: usize, tag: Tag) -> bool
-    ensures { λ r. ⌜ r ≡ standsAt (now (file .entry)) at tag ⌝ }
+pub fn is_record_at(file: &[u8], at: usize, tag: Tag) -> bool
+    ensures { λ r. ⌜ r ≡ isRecordAt (now (file .entry)) at tag ⌝ }
 {
     let length = body_length(tag);
     let bytes = HEAD + length;

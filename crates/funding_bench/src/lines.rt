@@ -1,7 +1,7 @@
 // The lines of the printout.
 use ledger::ACCOUNTS;
 use ledger::Book;
-use ledger::Fixing;
+use day::outcome::Fixing;
 use libc::STDOUT_FILENO;
 use printout::Shown;
 use printout::is_shown;

@@ -2,7 +2,7 @@
 // printout; here it is written out.
 use dayfile::Read;
 use ledger::Book;
-use ledger::product::Product;
+use day::product::Product;
 use libc::STDIN_FILENO;
 use libc::STDOUT_FILENO;
 use printout::play_record;

@@ -10,17 +10,18 @@ use Prim.Native.Nat.{ℕ, _+_, _≤_, _<_}
 use native.Mathlib.Omega.{arith}
 use lib.Dec.{eqb}
 use lib.ListN.{length}
-use Rattle.ledger.specs.declared.Call.{Call}
+use Rattle.integers.specs.Lists.{keepIf}
+use Rattle.day.specs.declared.call.Call.{Call}
 use Rattle.ledger.specs.declared.Book.{Book}
 use Rattle.ledger.specs.declared.Answer.{Answer}
 use Rattle.ledger.specs.Columns.{accounts}
-use Rattle.ledger.specs.Step.{step, run, keepIf, accepted, isAccepted}
+use Rattle.ledger.specs.Step.{step, run, acceptedCalls, isAccepted}
 use Rattle.ledger.proofs.Keeping.{step-kept}
 use Rattle.dayfile.specs.Calls.{callsFrom, callsOf}
 use Rattle.dayfile.proofs.Reading.{at-end}
 use Rattle.dayfile.proofs.Calls.{calls-at-end}
 use Rattle.host.specs.Running.{Ready, Running}
-use Rattle.host.specs.Run.{ranOver}
+use Rattle.host.specs.Run.{runOver}
 
 pub begins : {file : List ℕ} {b : Book} {count at : ℕ} → Ready file b count at → Running file b count at b count at
 begins h = record { ready = h; onward = omega arith; book-is = refl; count-is = refl }
@@ -31,11 +32,11 @@ equal {file} {start} {before = before} {from = from} {at = at} e f r = rw (e, f)
 pub joined : {file : List ℕ} {start b b′ : Book} {before from count at count′ at′ : ℕ} → Running file start before from b count at → Running file b count at b′ count′ at′ → Running file start before from b′ count′ at′
 joined r s = record { ready = s .ready; onward = omega (arith, r .onward, s .onward); book-is = r .book-is ∙ s .book-is; count-is = r .count-is ∙ s .count-is }
 
-pub ends : {file : List ℕ} {start b : Book} {count at : ℕ} → Running file start 0 0 b count at → callsFrom file at ≡ [] → record { accepted = count; book = b } ≡ ranOver start (callsOf file)
-unfolding run accepted
+pub ends : {file : List ℕ} {start b : Book} {count at : ℕ} → Running file start 0 0 b count at → callsFrom file at ≡ [] → record { accepted = count; book = b } ≡ runOver start (callsOf file)
+unfolding run acceptedCalls
 ends {file} {start} {b} {count} {at} r e =
-    let none : length (accepted accounts b (callsFrom file at)) ≡ 0 = ap (λ (cs : List Call). length (accepted accounts b cs)) e in
-    let n : count ≡ length (accepted accounts start (callsOf file)) = omega (arith, r .count-is) in
+    let none : length (acceptedCalls accounts b (callsFrom file at)) ≡ 0 = ap (λ (cs : List Call). length (acceptedCalls accounts b cs)) e in
+    let n : count ≡ length (acceptedCalls accounts start (callsOf file)) = omega (arith, r .count-is) in
     ap₂ (λ (k : ℕ) (c : Book). record { accepted = k; book = c }) n (sym (r .book-is ∙ ap (run accounts b) e))
 
 module _ {file : List ℕ} {start b : Book} {before from count at : ℕ} (r : Running file start before from b count at) where
@@ -45,21 +46,21 @@ module _ {file : List ℕ} {start b : Book} {before from count at : ℕ} (r : Ru
         ready = record { within = r .ready .within; inside = far; fewer = omega (arith, r .ready .fewer) };
         onward = omega (arith, r .onward);
         book-is = r .book-is ∙ ap (run accounts b) e;
-        count-is = r .count-is ∙ ap (λ (cs : List Call). count + length (accepted accounts b cs)) e;
+        count-is = r .count-is ∙ ap (λ (cs : List Call). count + length (acceptedCalls accounts b cs)) e;
       }
 
   pub skips-all : callsFrom file at ≡ [] → Running file start before from b count (length file)
   skips-all e = skips (length file) (r .ready .inside) (omega arith) (e ∙ sym (calls-at-end file (length file) (at-end file (length file) (omega arith))))
 
   steps : (c : Call) (next : ℕ) → at < next → next ≤ length file → callsFrom file at ≡ c ∷ callsFrom file next → Running file start before from (step accounts b c .book) (count + cond (eqb (step accounts b c .code) 0) 1 0) next
-  unfolding run accepted step
+  unfolding run acceptedCalls step
   steps c next near far e =
       let k = step-kept accounts b c (r .ready .within .shaped) (r .ready .within .within) in
       record {
         ready = record { within = record { shaped = k .0; within = k .1 }; inside = far; fewer = at-most (isAccepted accounts b c) };
         onward = omega (arith, r .onward);
         book-is = r .book-is ∙ ap (run accounts b) e;
-        count-is = r .count-is ∙ ap (λ (cs : List Call). count + length (accepted accounts b cs)) e ∙ one-more (isAccepted accounts b c) (accepted accounts (step accounts b c .book) (callsFrom file next));
+        count-is = r .count-is ∙ ap (λ (cs : List Call). count + length (acceptedCalls accounts b cs)) e ∙ one-more (isAccepted accounts b c) (acceptedCalls accounts (step accounts b c .book) (callsFrom file next));
       }
     where
       at-most : (t : Bool) → count + cond t 1 0 ≤ next

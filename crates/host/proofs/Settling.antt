@@ -9,16 +9,17 @@ use mathlib.Core.List.{List, [], _∷_, reverseAux}
 use Prim.Native.Nat.{ℕ, _+_}
 use native.Mathlib.Omega.{arith}
 use lib.ListN.{length}
-use Rattle.ledger.specs.declared.Call.{Call}
+use Rattle.day.specs.declared.call.Call.{Call}
+use Rattle.day.specs.Opening.{isSize}
 use Rattle.ledger.specs.declared.Book.{Book}
 use Rattle.ledger.specs.Columns.{accounts}
-use Rattle.ledger.specs.Opening.{isSize, opening}
-use Rattle.ledger.specs.Step.{step, run, accepted}
+use Rattle.ledger.specs.Opening.{opening}
+use Rattle.ledger.specs.Step.{step, run, acceptedCalls}
 use Rattle.ledger.specs.Inner.{WithinLimits}
 use Rattle.ledger.proofs.Keeping.{fresh-shaped, step-kept, run-within}
 use Rattle.history.proofs.Demand3.{demand-three}
 use Rattle.dayfile.specs.Calls.{callsOf}
-use Rattle.host.specs.Run.{ranFile, Settled}
+use Rattle.host.specs.Run.{runFile, Settled}
 
 pub opened-within : (size : ℕ) → opening accounts size .code ≡ 0 → WithinLimits accounts (opening accounts size .book)
 unfolding run
@@ -29,18 +30,18 @@ unfolding run
 kept b [] w = w
 kept b (c ∷ cs) w = let k = step-kept accounts b c (w .shaped) (w .within) in kept (step accounts b c .book) cs (record { shaped = k .0; within = k .1 })
 
-pub ended-within : (size : ℕ) (file : List ℕ) → opening accounts size .code ≡ 0 → WithinLimits accounts (ranFile size file .book)
+pub ended-within : (size : ℕ) (file : List ℕ) → opening accounts size .code ≡ 0 → WithinLimits accounts (runFile size file .book)
 ended-within size file e = kept (opening accounts size .book) (callsOf file) (opened-within size e)
 
 length-reversed : (cs h : List Call) → length (reverseAux cs h) ≡ length cs + length h
 length-reversed [] h = omega arith
 length-reversed (c ∷ cs) h = omega (arith, length-reversed cs (c ∷ h))
 
-pub settled : (size : ℕ) (file : List ℕ) → opening accounts size .code ≡ 0 → Settled size file (ranFile size file .accepted) (ranFile size file .book .position) (ranFile size file .book .cash)
+pub settled : (size : ℕ) (file : List ℕ) → opening accounts size .code ≡ 0 → Settled size file (runFile size file .accepted) (runFile size file .book .position) (runFile size file .book .cash)
 settled size file e =
     let d = demand-three accounts size (callsOf file) e in
     record {
-      calls = omega (arith, length-reversed (accepted accounts (opening accounts size .book) (callsOf file)) []);
+      calls = omega (arith, length-reversed (acceptedCalls accounts (opening accounts size .book) (callsOf file)) []);
       position = d .position;
       paid = d .cash;
       positions-cancel = d .positions-cancel;

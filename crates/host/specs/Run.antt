@@ -6,23 +6,23 @@ use Prim.Native.Nat.{ℕ, _<_}
 use lib.Dec.{eqb}
 use lib.IntN.{ℤ, pos}
 use lib.ListN.{length}
-use Rattle.ledger.specs.declared.Call.{Call}
+use Rattle.day.specs.declared.call.Call.{Call}
 use Rattle.ledger.specs.declared.Book.{Book}
 use Rattle.ledger.specs.Columns.{accounts, entry}
 use Rattle.ledger.specs.Opening.{opening}
-use Rattle.ledger.specs.Step.{run, accepted}
-use Rattle.history.specs.Figures.{net, cashOf}
+use Rattle.ledger.specs.Step.{run, acceptedCalls}
+use Rattle.history.specs.Cash.{net, cashOf}
 use Rattle.history.specs.Demand3.{history, total}
 use Rattle.dayfile.specs.Calls.{callsOf}
-use Rattle.host.specs.declared.Ran.{Ran}
+use Rattle.host.specs.declared.RunEnd.{RunEnd}
 
 -- a book after a list of calls, and how many of them it accepted
-abbrev pub ranOver : Book → List Call → Ran
-ranOver b cs = record { accepted = length (accepted accounts b cs); book = run accounts b cs }
+abbrev pub runOver : Book → List Call → RunEnd
+runOver b cs = record { accepted = length (acceptedCalls accounts b cs); book = run accounts b cs }
 
 -- the run of a fresh book of this size over the calls of a file
-abbrev pub ranFile : ℕ → List ℕ → Ran
-ranFile size file = ranOver (opening accounts size .book) (callsOf file)
+abbrev pub runFile : ℕ → List ℕ → RunEnd
+runFile size file = runOver (opening accounts size .book) (callsOf file)
 
 -- the size is not refused, and neither are the lists, by their lengths
 abbrev pub taken : ℕ → ℕ → ℕ → Bool
@@ -30,14 +30,14 @@ taken size positions cash = eqb (opening accounts size .code) 0 && eqb positions
 
 -- 01: "it returns the number of accepted records, and 0 with lists untouched if size or lists are refused"
 abbrev pub acceptedRecords : ℕ → List ℕ → ℕ → ℕ → ℕ
-acceptedRecords size file positions cash = cond (taken size positions cash) (ranFile size file .accepted) 0
+acceptedRecords size file positions cash = cond (taken size positions cash) (runFile size file .accepted) 0
 
 -- 01: "Otherwise the lists report the book where the run ended"
 abbrev pub reportedPositions : ℕ → List ℕ → List ℤ → ℕ → List ℤ
-reportedPositions size file positions cash = cond (taken size (length positions) cash) (ranFile size file .book .position) positions
+reportedPositions size file positions cash = cond (taken size (length positions) cash) (runFile size file .book .position) positions
 
 abbrev pub reportedCash : ℕ → List ℕ → ℕ → List ℤ → List ℤ
-reportedCash size file positions cash = cond (taken size positions (length cash)) (ranFile size file .book .cash) cash
+reportedCash size file positions cash = cond (taken size positions (length cash)) (runFile size file .book .cash) cash
 
 -- demand 3 from bytes: the lists of a run that is taken are the figures of the history of the file's calls, and each sums to zero
 pub record Settled (size : ℕ) (file : List ℕ) (number : ℕ) (positions cash : List ℤ) : Type 0 where

@@ -6,7 +6,7 @@ use Prim.Native.Nat.{ℕ, _+_, _≤_}
 use lib.ListN.{length}
 use Rattle.ledger.specs.declared.Book.{Book}
 use Rattle.ledger.specs.Columns.{accounts}
-use Rattle.ledger.specs.Step.{run, accepted}
+use Rattle.ledger.specs.Step.{run, acceptedCalls}
 use Rattle.ledger.specs.Inner.{WithinLimits}
 use Rattle.dayfile.specs.Calls.{callsFrom}
 
@@ -21,4 +21,4 @@ pub record Running (file : List ℕ) (start : Book) (before from : ℕ) (b : Boo
   pub ready : Ready file b count at
   pub onward : from ≤ at
   pub book-is : run accounts start (callsFrom file from) ≡ run accounts b (callsFrom file at)
-  pub count-is : before + length (accepted accounts start (callsFrom file from)) ≡ count + length (accepted accounts b (callsFrom file at))
+  pub count-is : before + length (acceptedCalls accounts start (callsFrom file from)) ≡ count + length (acceptedCalls accounts b (callsFrom file at))

@@ -8,24 +8,24 @@ ghost use Rattle.ledger.specs.Columns.{accounts};
 ghost use Rattle.ledger.specs.Inner.{bookOf, WithinLimits};
 ghost use Rattle.dayfile.specs.Calls.{callsOf};
 ghost use Rattle.host.specs.Running.{Ready, Running};
-ghost use Rattle.host.specs.Run.{ranOver, acceptedRecords, reportedPositions, reportedCash, FromBytes};
+ghost use Rattle.ledger.specs.declared.Book.{Book};
+ghost use Rattle.host.specs.Run.{runOver, acceptedRecords, reportedPositions, reportedCash, FromBytes};
 use dayfile::HEAD;
 use dayfile::Read;
 use dayfile::Tag;
 use dayfile::body_length;
 use dayfile::four_bytes;
-use dayfile::stands;
+use dayfile::is_record_at;
 use dayfile::trade_at;
 use ledger::ACCOUNTS;
 use ledger::Book;
-use ledger::Figures;
-use ledger::product::Product;
+use day::figures::Figures;
 use ledger::report::fill;
 use ledger::step::step_on;
 use ledger::trading::trade_on;
 
 // Where a run ended: the records accepted, and the book.
-pub struct Ran {
+pub struct RunEnd {
     pub accepted: u64,
     pub book: Book,
 }
@@ -39,17 +39,17 @@ fn count(accepted: u64, code: u8) -> u64
 }
 
 // What a part of a run has come to: the records accepted, the place of the next one, and the figures.
-struct Reached {
+struct Progress {
     accepted: u64,
     at: usize,
     figures: Figures,
 }
 
 // Where a run with these figures begins.
-fn began(figures: Figures) -> Reached
+fn began(figures: Figures) -> Progress
     ensures { λ r. ⌜ r ≡ record { accepted = 0; at = 0; figures = figures } ⌝ }
 {
-    Reached {
+    Progress {
         accepted: 0,
         at: 0,
         figures,
@@ -58,18 +58,18 @@ fn began(figures: Figures) -> Reached
 
 // Where a run that came to this ended, with these columns.
 fn ended(
-    reached: Reached,
+    progress: Progress,
     opening: [i64; ACCOUNTS],
     position: [i64; ACCOUNTS],
     cost: [i64; ACCOUNTS],
     volume: [u32; ACCOUNTS],
     cash: [i64; ACCOUNTS],
-) -> Ran
-    ensures { λ r. ⌜ r ≡ record { accepted = reached .accepted; book = bookOf (reached .figures) opening position cost volume cash } ⌝ }
+) -> RunEnd
+    ensures { λ r. ⌜ r ≡ record { accepted = progress .accepted; book = bookOf (progress .figures) opening position cost volume cash } ⌝ }
 {
-    let figures = reached.figures;
-    Ran {
-        accepted: reached.accepted,
+    let figures = progress.figures;
+    RunEnd {
+        accepted: progress.accepted,
         book: Book {
             figures,
             opening,
@@ -84,21 +84,25 @@ fn ended(
 // Plays the minute ends that follow one another from a place on. The columns, which they leave alone, are lent for the
 // contract: it is of the whole book.
 fn minute_ends(
-    from: Reached,
+    from: Progress,
     file: &[u8],
     opening: &[i64; ACCOUNTS],
     position: &[i64; ACCOUNTS],
     cost: &[i64; ACCOUNTS],
     volume: &[u32; ACCOUNTS],
     cash: &[i64; ACCOUNTS],
-) -> Reached
-    requires { ⌜ Ready (now file) (bookOf (from .figures) (now opening) (now position) (now cost) (now volume) (now cash)) (from .accepted) (from .at) ⌝ }
-    ensures { λ r. ⌜ Running (now (file .entry)) (bookOf (from .figures) (now (opening .entry)) (now (position .entry)) (now (cost .entry)) (now (volume .entry)) (now (cash .entry))) (from .accepted) (from .at) (bookOf (r .figures) (now (opening .entry)) (now (position .entry)) (now (cost .entry)) (now (volume .entry)) (now (cash .entry))) (r .accepted) (r .at) ⌝ }
+) -> Progress
+    ghost { Book }
+    requires { λ b. ⌜ bookOf (from .figures) (now opening) (now position) (now cost) (now volume) (now cash) ≡ b ⌝ }
+    requires { λ b. ⌜ Ready (now file) b (from .accepted) (from .at) ⌝ }
+    ensures { λ b r. ⌜ Running (now (file .entry)) b (from .accepted) (from .at)
+        (bookOf (r .figures) (now (opening .entry)) (now (position .entry)) (now (cost .entry)) (now (volume .entry)) (now (cash .entry)))
+        (r .accepted) (r .at) ⌝ }
 {
     let mut figures = from.figures;
     let mut accepted = from.accepted;
     let mut at = from.at;
-    while stands(file, at, Tag::MinuteEnd) {
+    while is_record_at(file, at, Tag::MinuteEnd) {
         let body = at + HEAD;
         let outcome = figures.minute_end(four_bytes(file, body));
         let after = outcome.figures;
@@ -106,7 +110,7 @@ fn minute_ends(
         accepted = count(accepted, outcome.code);
         at = body + body_length(Tag::MinuteEnd);
     }
-    Reached {
+    Progress {
         accepted,
         at,
         figures,
@@ -115,21 +119,25 @@ fn minute_ends(
 
 // Plays the trades that follow one another from a place on, on the three columns that they change.
 fn trades(
-    from: Reached,
+    from: Progress,
     file: &[u8],
     opening: &[i64; ACCOUNTS],
     position: &mut [i64; ACCOUNTS],
     cost: &mut [i64; ACCOUNTS],
     volume: &mut [u32; ACCOUNTS],
     cash: &[i64; ACCOUNTS],
-) -> Reached
-    requires { ⌜ Ready (now file) (bookOf (from .figures) (now opening) (now position) (now cost) (now volume) (now cash)) (from .accepted) (from .at) ⌝ }
-    ensures { λ r. ⌜ Running (now (file .entry)) (bookOf (from .figures) (now (opening .entry)) (now (position .entry)) (now (cost .entry)) (now (volume .entry)) (now (cash .entry))) (from .accepted) (from .at) (bookOf (r .figures) (now (opening .entry)) (now (position .exit)) (now (cost .exit)) (now (volume .exit)) (now (cash .entry))) (r .accepted) (r .at) ⌝ }
+) -> Progress
+    ghost { Book }
+    requires { λ b. ⌜ bookOf (from .figures) (now opening) (now position) (now cost) (now volume) (now cash) ≡ b ⌝ }
+    requires { λ b. ⌜ Ready (now file) b (from .accepted) (from .at) ⌝ }
+    ensures { λ b r. ⌜ Running (now (file .entry)) b (from .accepted) (from .at)
+        (bookOf (r .figures) (now (opening .entry)) (now (position .exit)) (now (cost .exit)) (now (volume .exit)) (now (cash .entry)))
+        (r .accepted) (r .at) ⌝ }
 {
     let mut figures = from.figures;
     let mut accepted = from.accepted;
     let mut at = from.at;
-    while stands(file, at, Tag::Trade) {
+    while is_record_at(file, at, Tag::Trade) {
         let body = at + HEAD;
         let outcome = trade_on(figures, position, cost, volume, trade_at(file, body));
         let after = outcome.figures;
@@ -137,7 +145,7 @@ fn trades(
         accepted = count(accepted, outcome.code);
         at = body + body_length(Tag::Trade);
     }
-    Reached {
+    Progress {
         accepted,
         at,
         figures,
@@ -146,16 +154,20 @@ fn trades(
 
 // Plays or passes over the record at a place, whatever it is. A record that is cut off ends the run: nothing is left of the file.
 fn any_record(
-    from: Reached,
+    from: Progress,
     file: &[u8],
     opening: &mut [i64; ACCOUNTS],
     position: &mut [i64; ACCOUNTS],
     cost: &mut [i64; ACCOUNTS],
     volume: &mut [u32; ACCOUNTS],
     cash: &mut [i64; ACCOUNTS],
-) -> Reached
-    requires { ⌜ Ready (now file) (bookOf (from .figures) (now opening) (now position) (now cost) (now volume) (now cash)) (from .accepted) (from .at) ⌝ }
-    ensures { λ r. ⌜ Running (now (file .entry)) (bookOf (from .figures) (now (opening .entry)) (now (position .entry)) (now (cost .entry)) (now (volume .entry)) (now (cash .entry))) (from .accepted) (from .at) (bookOf (r .figures) (now (opening .exit)) (now (position .exit)) (now (cost .exit)) (now (volume .exit)) (now (cash .exit))) (r .accepted) (r .at) × (from .at < length (now (file .entry)) → from .at < r .at) ⌝ }
+) -> Progress
+    ghost { Book }
+    requires { λ b. ⌜ bookOf (from .figures) (now opening) (now position) (now cost) (now volume) (now cash) ≡ b ⌝ }
+    requires { λ b. ⌜ Ready (now file) b (from .accepted) (from .at) ⌝ }
+    ensures { λ b r. ⌜ Running (now (file .entry)) b (from .accepted) (from .at)
+        (bookOf (r .figures) (now (opening .exit)) (now (position .exit)) (now (cost .exit)) (now (volume .exit)) (now (cash .exit)))
+        (r .accepted) (r .at) × (from .at < length (now (file .entry)) → from .at < r .at) ⌝ }
 {
     let mut after = from;
     match dayfile::read_record(file, from.at) {
@@ -185,18 +197,18 @@ fn any_record(
 
 // Runs a book within its limits over the records of a file. The columns stay in place from record to record. Minute ends and
 // trades, which most records are, are played by loops of their own, in which the machine has few numbers to keep.
-fn run(book: Book, file: &[u8]) -> Ran
+fn run(book: Book, file: &[u8]) -> RunEnd
     requires { ⌜ WithinLimits accounts book ⌝ }
-    ensures { λ r. ⌜ r ≡ ranOver book (callsOf (now (file .entry))) ⌝ }
+    ensures { λ r. ⌜ r ≡ runOver book (callsOf (now (file .entry))) ⌝ }
 {
     let mut opening = book.opening;
     let mut position = book.position;
     let mut cost = book.cost;
     let mut volume = book.volume;
     let mut cash = book.cash;
-    let mut reached = began(book.figures);
-    while reached.at < file.len() {
-        let ends = minute_ends(reached, file, &opening, &position, &cost, &volume, &cash);
+    let mut progress = began(book.figures);
+    while progress.at < file.len() {
+        let ends = minute_ends(progress, file, &opening, &position, &cost, &volume, &cash);
         let traded = trades(
             ends,
             file,
@@ -206,11 +218,11 @@ fn run(book: Book, file: &[u8]) -> Ran
             &mut volume,
             &cash,
         );
-        if reached.at < traded.at {
-            reached = traded;
+        if progress.at < traded.at {
+            progress = traded;
             continue;
         }
-        reached = any_record(
+        progress = any_record(
             traded,
             file,
             &mut opening,
@@ -220,26 +232,30 @@ fn run(book: Book, file: &[u8]) -> Ran
             &mut cash,
         );
     }
-    ended(reached, opening, position, cost, volume, cash)
+    ended(progress, opening, position, cost, volume, cash)
 }
 
 // Runs a fresh book of this size over a file, reports it to both lists and answers how many records were accepted. Where the
 // size or a list is refused it answers 0 and leaves both lists as they are.
 #[no_mangle]
 pub extern "C" fn funding_run(size: u8, file: &[u8], positions: &mut [i64], cash: &mut [i64]) -> u64
-    ensures number { λ r. ⌜ r ≡ acceptedRecords size (now (file .entry)) (length (now (positions .entry))) (length (now (cash .entry))) ⌝ }
-    ensures positions { λ r. ⌜ now (positions .exit) ≡ reportedPositions size (now (file .entry)) (now (positions .entry)) (length (now (cash .entry))) ⌝ }
-    ensures cash { λ r. ⌜ now (cash .exit) ≡ reportedCash size (now (file .entry)) (length (now (positions .entry))) (now (cash .entry)) ⌝ }
-    ensures history { λ r. ⌜ FromBytes size (now (file .entry)) (length (now (positions .entry))) (length (now (cash .entry))) r (now (positions .exit)) (now (cash .exit)) ⌝ }
+    ensures number { λ r. ⌜ r
+        ≡ acceptedRecords size (now (file .entry)) (length (now (positions .entry))) (length (now (cash .entry))) ⌝ }
+    ensures positions { λ r. ⌜ now (positions .exit)
+        ≡ reportedPositions size (now (file .entry)) (now (positions .entry)) (length (now (cash .entry))) ⌝ }
+    ensures cash { λ r. ⌜ now (cash .exit)
+        ≡ reportedCash size (now (file .entry)) (length (now (positions .entry))) (now (cash .entry)) ⌝ }
+    ensures history { λ r. ⌜ FromBytes size (now (file .entry)) (length (now (positions .entry))) (length (now (cash .entry)))
+        r (now (positions .exit)) (now (cash .exit)) ⌝ }
 {
-    let opened = Product::opening(size as u32);
+    let opened = Book::opening(size as u32);
     if (opened.code != 0) | (positions.len() != ACCOUNTS) | (cash.len() != ACCOUNTS) {
         return 0;
     }
-    let ran = run(opened.book, file);
-    let position = ran.book.position;
+    let end = run(opened.book, file);
+    let position = end.book.position;
     fill(positions, &position);
-    let posted = ran.book.cash;
+    let posted = end.book.cash;
     fill(cash, &posted);
-    ran.accepted
+    end.accepted
 }

@@ -10,7 +10,7 @@ use crate::print::number;
 use crate::print::signed;
 use crate::print::text;
 use integers::Tie;
-use ledger::product::Product;
+use day::product::Product;
 
 // The valid minutes of an example so far, and their weighted sum.
 pub struct Weighted {

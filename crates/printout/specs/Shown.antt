@@ -3,8 +3,8 @@ use mathlib.Core.Bool.{Bool, not, cond, _||_}
 use Prim.Native.Nat.{ℕ, _+_}
 use lib.Dec.{eqb}
 use lib.IntN.{ℤ, natAbs}
-use Rattle.ledger.specs.declared.Call.{Call}
-use Rattle.ledger.specs.declared.Call.the-variants as call
+use Rattle.day.specs.declared.call.Call.{Call}
+use Rattle.day.specs.declared.call.Call.the-variants as call
 use Rattle.ledger.specs.declared.Book.{Book}
 use Rattle.ledger.specs.declared.Answer.{Answer}
 use Rattle.ledger.specs.Columns.{accounts}

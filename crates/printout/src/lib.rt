@@ -5,8 +5,8 @@ ghost use Rattle.printout.specs.Shown.{openingShown, shownOf, played, pl
 use dayfile::Read;
 use ledger::Answer;
 use ledger::Book;
-use ledger::Call;
-use ledger::Fixing;
+use day::call::Call;
+use day::outcome::Fixing;
 
 // The lines of one record.
 pub enum Shown {

@@ -1,8 +1,8 @@
 // trade-bench: a million trades on a book that each call takes and hands back, for benchmarks/run to time. It prints how many
 // were accepted: all of them.
 use ledger::Book;
-use ledger::Trade;
-use ledger::product::Product;
+use day::trade::Trade;
+use day::product::Product;
 use libc::STDOUT_FILENO;
 
 const TRADES: u64 = 1_000_000;

@@ -8,9 +8,9 @@ use borrow.Author.Tests.{not-true, not-false, eqb-true}
 use borrow.Author.Needs.{needs}
 use Rattle.dayfile.specs.Calls.{callsOf}
 use Rattle.host.proofs.Settling.{opened-within, ended-within, settled}
-use Rattle.host.specs.Run.{ranOver, ranFile, taken}
-use Rattle.host.specs.declared.Ran.{Ran}
-use Rattle.ledger.proofs.Tests.{each}
+use Rattle.host.specs.Run.{runOver, runFile, taken}
+use Rattle.host.specs.declared.RunEnd.{RunEnd}
+use Rattle.integers.proofs.Tests.{each}
 use Rattle.ledger.specs.Columns.{accounts}
 use Rattle.ledger.specs.Inner.{WithinLimits}
 use Rattle.ledger.specs.Keeping.{Shaped}
@@ -26,14 +26,14 @@ one-refused true false m = refl
 one-refused false p m = refl
 
 module _ (c : tie.After-struct-known) where
-  test : {v : Bool} → (not (eqb (c .before .opening .result .code) 0) || not (eqb (length (c .before .before .before .args .positions .now)) 256) || not (eqb (length (c .before .before .before .args .cash .now)) 256)) ≡ v
+  test : {v : Bool} → (not (eqb (c .before .opening .result .code) 0) || not (eqb (length (c .before .before .before .args .positions .now)) accounts) || not (eqb (length (c .before .before .before .args .cash .now)) accounts)) ≡ v
       → let a = c .before .before .before .args in not (taken (a .size) (length (a .positions .now)) (length (a .cash .now))) ≡ v
   test {v} h =
       let a = c .before .before .before .args in
-      sym (one-refused (eqb (opening accounts (a .size) .code) 0) (eqb (length (a .positions .now)) 256) (eqb (length (a .cash .now)) 256))
-      ∙ ap (λ (x : Answer). not (eqb (x .code) 0) || not (eqb (length (a .positions .now)) 256) || not (eqb (length (a .cash .now)) 256)) (sym (c .before .opening .ensures)) ∙ h
+      sym (one-refused (eqb (opening accounts (a .size) .code) 0) (eqb (length (a .positions .now)) accounts) (eqb (length (a .cash .now)) accounts))
+      ∙ ap (λ (x : Answer). not (eqb (x .code) 0) || not (eqb (length (a .positions .now)) accounts) || not (eqb (length (a .cash .now)) accounts)) (sym (c .before .opening .ensures)) ∙ h
 
-  not-taken : (not (eqb (c .before .opening .result .code) 0) || not (eqb (length (c .before .before .before .args .positions .now)) 256) || not (eqb (length (c .before .before .before .args .cash .now)) 256)) ≡ true → let a = c .before .before .before .args in taken (a .size) (length (a .positions .now)) (length (a .cash .now)) ≡ false
+  not-taken : (not (eqb (c .before .opening .result .code) 0) || not (eqb (length (c .before .before .before .args .positions .now)) accounts) || not (eqb (length (c .before .before .before .args .cash .now)) accounts)) ≡ true → let a = c .before .before .before .args in taken (a .size) (length (a .positions .now)) (length (a .cash .now)) ≡ false
   not-taken h = not-true _ (test h)
 
 module _ (c : tie.Else1) where
@@ -46,19 +46,19 @@ module _ (c : tie.Else1) where
       let s = opening accounts (a .size) .code in
       let p = length (a .positions .now) in
       let m = length (a .cash .now) in
-      let t = each (eqb s 0) (eqb p 256 ∷ eqb m 256 ∷ []) is-taken in
-      (eqb-true s 0 (t 0), eqb-true p 256 (t 1), eqb-true m 256 (t 2))
+      let t = each (eqb s 0) (eqb p accounts ∷ eqb m accounts ∷ []) is-taken in
+      (eqb-true s 0 (t 0), eqb-true p accounts (t 1), eqb-true m accounts (t 2))
 
 -- what the run hands back
-ran-is : (c : tie.After-run) → let a = c .before .before .before .before .before .args in c .run .result ≡ ranFile (a .size) (a .file .now)
-ran-is c =
+run-is : (c : tie.After-run) → let a = c .before .before .before .before .before .args in c .run .result ≡ runFile (a .size) (a .file .now)
+run-is c =
     let a = c .before .before .before .before .before .args in
-    c .run .ensures ∙ ap (λ (x : Answer). ranOver (x .book) (callsOf (a .file .now))) (c .before .before .before .opening .ensures)
+    c .run .ensures ∙ ap (λ (x : Answer). runOver (x .book) (callsOf (a .file .now))) (c .before .before .before .opening .ensures)
 
 shaped : (c : tie.After-run) → Shaped accounts (c .run .result .book)
 shaped c =
     let a = c .before .before .before .before .before .args in
-    subst (λ (x : Ran). Shaped accounts (x .book)) (sym (ran-is c)) (ended-within (a .size) (a .file .now) (parts (c .before) .0) .shaped)
+    subst (λ (x : RunEnd). Shaped accounts (x .book)) (sym (run-is c)) (ended-within (a .size) (a .file .now) (parts (c .before) .0) .shaped)
 
 opening-requires : tie.Need-opening-requires
 opening-requires c κs = search needs
@@ -89,9 +89,9 @@ returns-2 c =
     let e = r .before in
     let s = e .before .before .before .before in
     let t = is-taken e in
-    let p = c .before .before .before .before .before .before .fill .ensures ∙ ap (λ (x : Ran). x .book .position) (ran-is r) in
-    let m = c .before .fill2 .ensures ∙ ap (λ (x : Ran). x .book .cash) (ran-is r) in
-    let n = ap (λ (x : Ran). x .accepted) (ran-is r) in
+    let p = c .before .before .before .before .before .before .fill .ensures ∙ ap (λ (x : RunEnd). x .book .position) (run-is r) in
+    let m = c .before .fill2 .ensures ∙ ap (λ (x : RunEnd). x .book .cash) (run-is r) in
+    let n = ap (λ (x : RunEnd). x .accepted) (run-is r) in
     (rw t n, (rw t p, (rw t m, λ _. rw (p, m, n) (settled (s .args .size) (s .args .file .now) (parts e .0)))))
 
 pub funding-run-spec : {M : Type 1} → statement M

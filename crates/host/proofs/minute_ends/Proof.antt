@@ -7,17 +7,18 @@ use native.Mathlib.Omega.{arith}
 use lib.ListN as lists
 use borrow.Author.Needs.{needs}
 use Rattle.dayfile.proofs.Calls.{calls-at-known}
-use Rattle.dayfile.proofs.Reading.{stood, stands-known}
+use Rattle.dayfile.proofs.Reading.{record-at, known-at}
 use Rattle.dayfile.specs.declared.Tag.the-variants as tag
-use Rattle.dayfile.specs.Record.{fourBytes, standsAt}
+use Rattle.dayfile.specs.Record.{fourBytes, isRecordAt}
 use Rattle.ledger.specs.declared.Book.{Book}
-use Rattle.ledger.specs.declared.Call.{Call}
-use Rattle.ledger.specs.declared.Call.the-variants as call
+use Rattle.day.specs.declared.call.Call.{Call}
+use Rattle.day.specs.declared.call.Call.the-variants as call
 use Rattle.ledger.specs.Columns.{accounts}
 use Rattle.ledger.specs.Effects.{effect}
 use Rattle.ledger.specs.Inner.{bookOf, answerOf}
 use Rattle.ledger.specs.Step.{step}
-use Rattle.ledger.proofs.Held.{held, figures-hold}
+use Rattle.day.proofs.Held.{figures-hold}
+use Rattle.ledger.proofs.Held.{held}
 use Rattle.ledger.proofs.Lent.{step-within, on-figures}
 use Rattle.host.specs.Running.{Running}
 use Rattle.host.proofs.Running.{begins, stepped}
@@ -44,16 +45,16 @@ callAt c = call.MinuteEnd (fourBytes (start c .args .file .now) (c .loop .at + 3
 loop-holds : tie.Need-loop-holds Inv-loop μ-loop
 loop-holds c = begins (c .before .before .pre)
 
-stands-requires : tie.Need-stands-requires Inv-loop μ-loop
-stands-requires c κs = search needs
+is-record-at-requires : tie.Need-is-record-at-requires Inv-loop μ-loop
+is-record-at-requires c κs = search needs
 
--- a minute end stands at the place
-standing : (c : tie.Then1 Inv-loop μ-loop) → let l = c .before .before in standsAt (start l .args .file .now) (l .loop .at) tag.MinuteEnd ≡ true
-standing c = sym (c .before .stands .ensures) ∙ c .if1 .taken
+-- a minute end is at the place
+found : (c : tie.Then1 Inv-loop μ-loop) → let l = c .before .before in isRecordAt (start l .args .file .now) (l .loop .at) tag.MinuteEnd ≡ true
+found c = sym (c .before .is-record-at .ensures) ∙ c .if1 .taken
 
 -- and ends within the file, whose length is a machine's number
 inside : (c : tie.Then1 Inv-loop μ-loop) → let l = c .before .before in (l .loop .at + 3 + 4 ≤ lists.length (start l .args .file .now)) × (lists.length (start l .args .file .now) < 2 ^ 63)
-inside c = let l = c .before .before in (omega (arith, stood (start l .args .file .now) (l .loop .at) tag.MinuteEnd (standing c)), omega (arith, start l .good))
+inside c = let l = c .before .before in (omega (arith, record-at (start l .args .file .now) (l .loop .at) tag.MinuteEnd (found c)), omega (arith, start l .good))
 
 add-body : tie.Need-add-body Inv-loop μ-loop
 add-body c = let h = inside c in record { fits = omega (arith, h .0, h .1) }
@@ -97,7 +98,7 @@ loop-again c =
     let l = t .before .before in
     let file = start l .args .file .now in
     let at = l .loop .at in
-    let calls = calls-at-known file at (callAt l) (at + 3 + 4) (stands-known file at tag.MinuteEnd (standing t)) in
+    let calls = calls-at-known file at (callAt l) (at + 3 + 4) (known-at file at tag.MinuteEnd (found t)) in
     rw (c .body-length .ensures) (stepped (l .loop .inv) (callAt l) (at + 3 + 4) (omega arith) (inside t .0) calls (answered m) (c .before .count .ensures))
 
 returns : tie.Need-returns Inv-loop μ-loop
@@ -110,7 +111,7 @@ minute-ends-spec =
     Inv-loop
     μ-loop
     loop-holds
-    stands-requires
+    is-record-at-requires
     add-body
     four-bytes-requires
     minute-end-requires

@@ -8,20 +8,20 @@ use Rattle.dayfile.proofs.Reading.{at-end}
 use Rattle.dayfile.proofs.Calls.{calls-at-end}
 use Rattle.dayfile.specs.Calls.{callsOf}
 use Rattle.ledger.specs.declared.Book.{Book}
-use Rattle.host.specs.declared.Reached.{Reached}
+use Rattle.host.specs.declared.Progress.{Progress}
 use Rattle.host.specs.Running.{Running}
-use Rattle.host.specs.Run.{ranOver}
+use Rattle.host.specs.Run.{runOver}
 use Rattle.host.proofs.Running.{begins, ends, joined}
 use Rattle.ledger.specs.Inner.{bookOf}
 use Rattle.host.proofs.run.Statement.{statement}
 use Rattle.host.proofs.run.Tie as tie
 
 abbrev Inv-loop : tie.InvT-loop
-Inv-loop file opening₀ position₀ cost₀ volume₀ cash₀ reached₀ opening position cost volume cash reached =
-    Running file (bookOf (reached₀ .figures) opening₀ position₀ cost₀ volume₀ cash₀) 0 0 (bookOf (reached .figures) opening position cost volume cash) (reached .accepted) (reached .at)
+Inv-loop file opening₀ position₀ cost₀ volume₀ cash₀ progress₀ opening position cost volume cash progress =
+    Running file (bookOf (progress₀ .figures) opening₀ position₀ cost₀ volume₀ cash₀) 0 0 (bookOf (progress .figures) opening position cost volume cash) (progress .accepted) (progress .at)
 
 abbrev μ-loop : tie.MeasureT-loop
-μ-loop file opening₀ position₀ cost₀ volume₀ cash₀ reached₀ opening position cost volume cash reached = lists.length file - reached .at
+μ-loop file opening₀ position₀ cost₀ volume₀ cash₀ progress₀ opening position cost volume cash progress = lists.length file - progress .at
 
 abbrev start : tie.At-loop Inv-loop μ-loop → tie.Start Inv-loop μ-loop
 start l = l .before .before .before .before .before .before .before .before
@@ -66,7 +66,7 @@ any-record-requires : tie.Need-any-record-requires Inv-loop μ-loop
 any-record-requires c κs = came (c .before .before .before .before .before .before .before .before) .ready
 
 -- the place that the record is read at is the one that the turn began at
-onward : (k : tie.After-trades Inv-loop μ-loop) → turn k .loop .reached .at ≤ k .trades .result .at
+onward : (k : tie.After-trades Inv-loop μ-loop) → turn k .loop .progress .at ≤ k .trades .result .at
 onward k = omega (arith, k .before .before .before .before .before .before .minute-ends .ensures .onward, k .trades .ensures .onward)
 
 loop-less-2 : tie.Need-loop-less-2 Inv-loop μ-loop
@@ -87,10 +87,10 @@ returns : tie.Need-returns Inv-loop μ-loop
 returns c =
     let l = c .before .before .before in
     let file = start l .args .file .now in
-    let at = l .loop .reached .at in
+    let at = l .loop .progress .at in
     let b = start l .args .book in
     c .ended .ensures ∙ ends (l .loop .inv) (calls-at-end file at (at-end file at (omega arith)))
-    ∙ ap (λ (r : Reached). ranOver (bookOf (r .figures) (b .opening) (b .position) (b .cost) (b .volume) (b .cash)) (callsOf file)) (l .before .began .ensures)
+    ∙ ap (λ (r : Progress). runOver (bookOf (r .figures) (b .opening) (b .position) (b .cost) (b .volume) (b .cash)) (callsOf file)) (l .before .began .ensures)
 
 pub run-spec : {M : Type 1} → statement M
 run-spec =

@@ -9,13 +9,13 @@ use mir.Syntax.{w8}
 use mir.Val.{Fits}
 use borrow.Author.Needs.{needs}
 use Rattle.dayfile.proofs.Calls.{calls-at-known}
-use Rattle.dayfile.proofs.Reading.{stood, stands-known}
+use Rattle.dayfile.proofs.Reading.{record-at, known-at}
 use Rattle.dayfile.specs.declared.Tag.the-variants as tag
-use Rattle.dayfile.specs.Record.{tradeAt, standsAt}
+use Rattle.dayfile.specs.Record.{tradeAt, isRecordAt}
 use Rattle.ledger.specs.declared.Book.{Book}
-use Rattle.ledger.specs.declared.Call.{Call}
-use Rattle.ledger.specs.declared.Trade.{Trade}
-use Rattle.ledger.specs.declared.Call.the-variants as call
+use Rattle.day.specs.declared.call.Call.{Call}
+use Rattle.day.specs.declared.trade.Trade.{Trade}
+use Rattle.day.specs.declared.call.Call.the-variants as call
 use Rattle.ledger.specs.Columns.{accounts}
 use Rattle.ledger.specs.Inner.{bookOf}
 use Rattle.ledger.specs.Step.{step}
@@ -45,16 +45,16 @@ callAt c = call.Trade (tradeAt (start c .args .file .now) (c .loop .at + 3))
 loop-holds : tie.Need-loop-holds Inv-loop μ-loop
 loop-holds c = begins (c .before .before .pre)
 
-stands-requires : tie.Need-stands-requires Inv-loop μ-loop
-stands-requires c κs = search needs
+is-record-at-requires : tie.Need-is-record-at-requires Inv-loop μ-loop
+is-record-at-requires c κs = search needs
 
--- a trade stands at the place
-standing : (c : tie.Then1 Inv-loop μ-loop) → let l = c .before .before in standsAt (start l .args .file .now) (l .loop .at) tag.Trade ≡ true
-standing c = sym (c .before .stands .ensures) ∙ c .if1 .taken
+-- a trade is at the place
+found : (c : tie.Then1 Inv-loop μ-loop) → let l = c .before .before in isRecordAt (start l .args .file .now) (l .loop .at) tag.Trade ≡ true
+found c = sym (c .before .is-record-at .ensures) ∙ c .if1 .taken
 
 -- and ends within the file, whose length is a machine's number
 inside : (c : tie.Then1 Inv-loop μ-loop) → let l = c .before .before in (l .loop .at + 3 + 11 ≤ lists.length (start l .args .file .now)) × (lists.length (start l .args .file .now) < 2 ^ 63)
-inside c = let l = c .before .before in (omega (arith, stood (start l .args .file .now) (l .loop .at) tag.Trade (standing c)), omega (arith, start l .good))
+inside c = let l = c .before .before in (omega (arith, record-at (start l .args .file .now) (l .loop .at) tag.Trade (found c)), omega (arith, start l .good))
 
 add-body : tie.Need-add-body Inv-loop μ-loop
 add-body c = let h = inside c in record { fits = omega (arith, h .0, h .1) }
@@ -96,7 +96,7 @@ loop-again c =
     m .trade-on .ensures (bookAt l .opening) (bookAt l .cash)
     ∙ step-within accounts (bookAt l) k (l .loop .inv .ready .within)
     ∙ ap (λ (t : Trade). step accounts (bookAt l) (call.Trade t)) (m .before .trade-at .ensures) in
-    let calls = calls-at-known file at (callAt l) (at + 3 + 11) (stands-known file at tag.Trade (standing t)) in
+    let calls = calls-at-known file at (callAt l) (at + 3 + 11) (known-at file at tag.Trade (found t)) in
     rw (c .body-length .ensures) (stepped (l .loop .inv) (callAt l) (at + 3 + 11) (omega arith) (inside t .0) calls a (c .before .count .ensures))
 
 returns : tie.Need-returns Inv-loop μ-loop
@@ -109,7 +109,7 @@ trades-spec =
     Inv-loop
     μ-loop
     loop-holds
-    stands-requires
+    is-record-at-requires
     add-body
     trade-at-requires
     trade-on-requires

@@ -1,4 +1,4 @@
--- `dayfile::stands` meets its contract, test by test. Assumes nothing.
+-- `dayfile::is_record_at` meets its contract, test by test. Assumes nothing.
 use mathlib.Core.Path.{_≡_, sym, _∙_}
 use mathlib.Core.Bool.{true}
 use Prim.Native.Nat.{_+_, _≤_}
@@ -10,8 +10,8 @@ use borrow.Author.Needs.{needs}
 use Rattle.dayfile.specs.declared.Tag.{Tag}
 use Rattle.dayfile.specs.declared.Tag.the-variants as tag
 use Rattle.dayfile.specs.Record.{byteAt, byteOf, bodyLength, bodyAt}
-use Rattle.dayfile.proofs.stands.Statement.{statement}
-use Rattle.dayfile.proofs.stands.Tie as tie
+use Rattle.dayfile.proofs.is_record_at.Statement.{statement}
+use Rattle.dayfile.proofs.is_record_at.Tie as tie
 
 short : (t : Tag) → bodyLength t ≤ 11
 short tag.Trade = omega arith
@@ -76,8 +76,8 @@ returns-4 c =
     let s = b .before .before .args in
     rw (inside e, eq-eqb (byteAt (s .file .now) (s .at)) (byteOf (s .tag)) (k .if3 .left ∙ k .before .byte-of .ensures), c .two-bytes .ensures .0, b .body-length .ensures)
 
-pub stands-spec : {M : Type 1} → statement M
-stands-spec =
+pub is-record-at-spec : {M : Type 1} → statement M
+is-record-at-spec =
     tie.close
     (tie.spec
     body-length-requires
