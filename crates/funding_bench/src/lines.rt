@@ -1,10 +1,10 @@
 // The lines of the printout.
+use day::outcome::Fixing;
 use ledger::ACCOUNTS;
 use ledger::Book;
-use day::outcome::Fixing;
 use libc::STDOUT_FILENO;
-use printout::Shown;
-use printout::is_shown;
+use printout::Printed;
+use printout::is_printed;
 
 fn text(words: &[u8]) {
     io::write_all(STDOUT_FILENO, words);
@@ -58,23 +58,23 @@ fn accounts(book: Book) {
     while i < ACCOUNTS {
         let position = book.position[i];
         let cash = book.cash[i];
-        if is_shown(position, cash) {
+        if is_printed(position, cash) {
             account(i as u64, position, cash);
         }
         i += 1;
     }
 }
 
-pub fn print(shown: Shown, book: Book) {
-    match shown {
-        Shown::Nothing => {}
-        Shown::Refused { number, place } => {
+pub fn print(printed: Printed, book: Book) {
+    match printed {
+        Printed::Nothing => {}
+        Printed::Refused { number, place } => {
             refused(number, place);
         }
-        Shown::Day { day: of, fixing } => {
+        Printed::Day { day: of, fixing } => {
             day(of, fixing);
         }
-        Shown::Accounts => {
+        Printed::Accounts => {
             accounts(book);
         }
     }

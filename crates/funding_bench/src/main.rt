@@ -2,11 +2,10 @@
 // printout; here it is written out.
 use dayfile::Read;
 use ledger::Book;
-use day::product::Product;
 use libc::STDIN_FILENO;
 use libc::STDOUT_FILENO;
 use printout::play_record;
-use printout::shown_opening;
+use printout::printed_opening;
 
 mod lines;
 
@@ -33,8 +32,8 @@ fn play_records(opened: Book, file: &[u8]) {
         let read = dayfile::read_record(file, at);
         let played = play_record(book, read, place);
         let after = played.book;
-        let shown = played.shown;
-        lines::print(shown, after);
+        let printed = played.printed;
+        lines::print(printed, after);
         match read {
             Read::End => {
                 return;
@@ -60,10 +59,10 @@ fn play_records(opened: Book, file: &[u8]) {
 }
 
 fn bench(input: &[u8]) {
-    let opened = Product::opening(size_of(input));
-    let shown = shown_opening(opened);
+    let opened = Book::opening(size_of(input));
+    let printed = printed_opening(opened);
     let book = opened.book;
-    lines::print(shown, book);
+    lines::print(printed, book);
     if opened.code != 0 {
         return;
     }

@@ -3,14 +3,16 @@ ghost use mathlib.Core.Path.{_≡_};
 ghost use mathlib.Core.Bool.{true};
 ghost use Prim.Native.Nat.{_+_, _<_, _≤_};
 ghost use lib.IntN.{natAbs};
+ghost use Rattle.funding.specs.Price.{largestPrice};
+ghost use Rattle.funding.specs.Terms.{clamp};
 ghost use Rattle.funding.specs.Price.{isPrice};
 ghost use Rattle.funding.specs.Minute.{weightedLimit};
 use crate::print::end_line;
 use crate::print::number;
 use crate::print::signed;
 use crate::print::text;
-use integers::Tie;
 use day::product::Product;
+use integers::Tie;
 
 // The valid minutes of an example so far, and their weighted sum.
 pub struct Weighted {
@@ -116,7 +118,7 @@ pub fn clamp(rate: i64) {
 
 // Clamped rate, price, size 1, contracts; the amount of one, and what all of them are paid, or pay where it is negative.
 pub fn amount(rate: i64, price: u32, contracts: i64)
-    requires { ⌜ (natAbs rate ≤ 2000000) × (price ≤ 50000000) × (natAbs contracts ≤ 25) ⌝ }
+    requires { ⌜ (natAbs rate ≤ clamp) × (price ≤ largestPrice) × (natAbs contracts ≤ 25) ⌝ }
 {
     let hundredth = Product::hundredth();
     let size = hundredth.size;

@@ -1,58 +1,58 @@
 // What the bench prints, as a value for each record: the program is left with writing its digits.
 ghost use mathlib.Core.Path.{_≡_};
 ghost use Rattle.ledger.specs.Step.{step};
-ghost use Rattle.printout.specs.Shown.{openingShown, shownOf, played, playedRecord, isShown};
+ghost use Rattle.printout.specs.Printed.{printedOpening, printedBy, played, playedRecord, isPrinted};
+use day::call::Call;
+use day::outcome::Fixing;
 use dayfile::Read;
 use ledger::Answer;
 use ledger::Book;
-use day::call::Call;
-use day::outcome::Fixing;
 
 // The lines of one record.
-pub enum Shown {
+pub enum Printed {
     Nothing,
     // refused NUMBER record PLACE
     Refused { number: u8, place: u64 },
     // day DAY price P rate R amount A valid K
     Day { day: u64, fixing: Fixing },
-    // a line for each account that is shown
+    // a line for each account that is printed
     Accounts,
 }
 
 // A book after a call, and what the call prints.
 pub struct Played {
-    pub shown: Shown,
+    pub printed: Printed,
     pub book: Book,
 }
 
 // What the opening prints.
-pub fn shown_opening(opened: Answer) -> Shown
-    ensures { λ r. ⌜ r ≡ openingShown opened ⌝ }
+pub fn printed_opening(opened: Answer) -> Printed
+    ensures { λ r. ⌜ r ≡ printedOpening opened ⌝ }
 {
     let number = opened.code;
     if number != 0 {
-        return Shown::Refused { number, place: 0 };
+        return Printed::Refused { number, place: 0 };
     }
-    Shown::Nothing
+    Printed::Nothing
 }
 
-fn shown_by(answer: Answer, call: Call, place: u64) -> Shown
-    ensures { λ r. ⌜ r ≡ shownOf answer call place ⌝ }
+fn printed_by(answer: Answer, call: Call, place: u64) -> Printed
+    ensures { λ r. ⌜ r ≡ printedBy answer call place ⌝ }
 {
     let number = answer.code;
     if number != 0 {
-        return Shown::Refused { number, place };
+        return Printed::Refused { number, place };
     }
     let fixing = answer.fixing;
     let day = answer.book.figures.closed as u64 + 1;
     match call {
-        Call::Quote(_) => Shown::Nothing,
-        Call::Trade(_) => Shown::Nothing,
-        Call::Halt => Shown::Nothing,
-        Call::Resume => Shown::Nothing,
-        Call::MinuteEnd(_) => Shown::Nothing,
-        Call::Fix(_) => Shown::Day { day, fixing },
-        Call::Close => Shown::Accounts,
+        Call::Quote(_) => Printed::Nothing,
+        Call::Trade(_) => Printed::Nothing,
+        Call::Halt => Printed::Nothing,
+        Call::Resume => Printed::Nothing,
+        Call::MinuteEnd(_) => Printed::Nothing,
+        Call::Fix(_) => Printed::Day { day, fixing },
+        Call::Close => Printed::Accounts,
     }
 }
 
@@ -61,9 +61,12 @@ fn play(book: Book, call: Call, place: u64) -> Played
     ensures { λ r. ⌜ r ≡ played book call place ⌝ }
 {
     let answer = book.step(call);
-    let shown = shown_by(answer, call, place);
+    let printed = printed_by(answer, call, place);
     let after = answer.book;
-    Played { shown, book: after }
+    Played {
+        printed,
+        book: after,
+    }
 }
 
 // What was read at a place of the file. A record that isn't a call leaves the book as it is.
@@ -72,28 +75,28 @@ pub fn play_record(book: Book, read: Read, place: u64) -> Played
 {
     match read {
         Read::End => Played {
-            shown: Shown::Nothing,
+            printed: Printed::Nothing,
             book,
         },
         Read::CutOff => Played {
-            shown: Shown::Refused { number: 1, place },
+            printed: Printed::Refused { number: 1, place },
             book,
         },
         Read::Known(_, call) => play(book, call, place),
         Read::WrongLength(_) => Played {
-            shown: Shown::Refused { number: 1, place },
+            printed: Printed::Refused { number: 1, place },
             book,
         },
         Read::Unknown(_) => Played {
-            shown: Shown::Nothing,
+            printed: Printed::Nothing,
             book,
         },
     }
 }
 
 // Whether a close prints an account.
-pub fn is_shown(position: i64, cash: i64) -> bool
-    ensures { λ r. ⌜ r ≡ isShown position cash ⌝ }
+pub fn is_printed(position: i64, cash: i64) -> bool
+    ensures { λ r. ⌜ r ≡ isPrinted position cash ⌝ }
 {
     (integers::magnitude(position) != 0) | (integers::magnitude(cash) != 0)
 }

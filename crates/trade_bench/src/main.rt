@@ -1,8 +1,8 @@
 // trade-bench: a million trades on a book that each call takes and hands back, for benchmarks/run to time. It prints how many
 // were accepted: all of them.
-use ledger::Book;
-use day::trade::Trade;
 use day::product::Product;
+use day::trade::Trade;
+use ledger::Book;
 use libc::STDOUT_FILENO;
 
 const TRADES: u64 = 1_000_000;
@@ -34,7 +34,7 @@ fn play(opened: Book) -> u64 {
 }
 
 fn main() {
-    let opened = Product::opening(Product::hundredth().size);
+    let opened = Book::opening(Product::hundredth().size);
     io::print_decimal(STDOUT_FILENO, play(opened.book));
     io::write_all(STDOUT_FILENO, b"\n");
 }

@@ -6,16 +6,16 @@ use Rattle.printout.proofs.play.Tie as tie
 step-requires : tie.Need-step-requires
 step-requires c κs = search needs
 
-shown-by-requires : tie.Need-shown-by-requires
-shown-by-requires c κs = search needs
+printed-by-requires : tie.Need-printed-by-requires
+printed-by-requires c κs = search needs
 
 returns : tie.Need-returns
-returns c = rw (c .before .shown-by .ensures, c .before .before .step .ensures)
+returns c = rw (c .before .printed-by .ensures, c .before .before .step .ensures)
 
 pub play-spec : {M : Type 1} → statement M
 play-spec =
     tie.close
     (tie.spec
     step-requires
-    shown-by-requires
+    printed-by-requires
     returns)

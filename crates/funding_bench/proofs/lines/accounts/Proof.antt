@@ -25,8 +25,8 @@ mul-cash c = search needs
 element-copy-out-cash : tie.Need-element-copy-out-cash Inv-loop μ-loop
 element-copy-out-cash c = search needs
 
-is-shown-requires : tie.Need-is-shown-requires Inv-loop μ-loop
-is-shown-requires c κs = search needs
+is-printed-requires : tie.Need-is-printed-requires Inv-loop μ-loop
+is-printed-requires c κs = search needs
 
 account-requires : tie.Need-account-requires Inv-loop μ-loop
 account-requires c κs = search needs
@@ -54,7 +54,7 @@ accounts-spec =
     element-copy-out-position
     mul-cash
     element-copy-out-cash
-    is-shown-requires
+    is-printed-requires
     account-requires
     add-i
     loop-less

@@ -1,8 +1,8 @@
--- `printout::shown_by` meets its contract, call by call. Assumes nothing.
+-- `printout::printed_by` meets its contract, call by call. Assumes nothing.
 use borrow.Author.Tests.{ne-eqb}
 use borrow.Author.Needs.{needs}
-use Rattle.printout.proofs.shown_by.Statement.{statement}
-use Rattle.printout.proofs.shown_by.Tie as tie
+use Rattle.printout.proofs.printed_by.Statement.{statement}
+use Rattle.printout.proofs.printed_by.Tie as tie
 
 returns : tie.Need-returns
 returns c = rw (ne-eqb _ _ (c .if1 .taken))
@@ -55,8 +55,8 @@ returns-7 c = rw (c .before .before .before .before .if1 .left, c .enum-told6 .g
 returns-8 : tie.Need-returns-8
 returns-8 c = rw (c .before .before .before .before .if1 .left, c .enum-told7 .given .1)
 
-pub shown-by-spec : {M : Type 1} → statement M
-shown-by-spec =
+pub printed-by-spec : {M : Type 1} → statement M
+printed-by-spec =
     tie.close
     (tie.spec
     returns

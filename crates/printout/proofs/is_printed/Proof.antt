@@ -1,8 +1,8 @@
--- `printout::is_shown` meets its contract. Assumes nothing.
+-- `printout::is_printed` meets its contract. Assumes nothing.
 use mir.Facts.{toZ-ofZ}
 use borrow.Author.Needs.{needs}
-use Rattle.printout.proofs.is_shown.Statement.{statement}
-use Rattle.printout.proofs.is_shown.Tie as tie
+use Rattle.printout.proofs.is_printed.Statement.{statement}
+use Rattle.printout.proofs.is_printed.Tie as tie
 
 magnitude-requires : tie.Need-magnitude-requires
 magnitude-requires c κs = search needs
@@ -13,8 +13,8 @@ magnitude-requires-2 c κs = search needs
 returns : tie.Need-returns
 returns c = rw (c .before .magnitude .ensures, c .magnitude2 .ensures, toZ-ofZ (c .before .before .fits .position), toZ-ofZ (c .before .before .fits .cash))
 
-pub is-shown-spec : {M : Type 1} → statement M
-is-shown-spec =
+pub is-printed-spec : {M : Type 1} → statement M
+is-printed-spec =
     tie.close
     (tie.spec
     magnitude-requires
