@@ -146,8 +146,8 @@ module _ (f : Figures) (a : Accounts) (h : HeldFigures f) where
   with-day {x} size closed previous day = record { size = rw size (h .size); closed = rw closed (h .closed); price = rw previous (h .price); index = rw previous (h .index); day = day }
 
   -- what a minute end or a fix passed
-  allowed : {c : Call} → Passed f c a → dayForbids f c ≡ false
-  allowed {c} p = none (isFull f) (dayForbids f c ∷ []) (p .day) 1
+  allowed : {c : Call} → Passed f c a → dayForbids (f .day) c ≡ false
+  allowed {c} p = none (isFull f) (dayForbids (f .day) c ∷ []) (p .day) 1
 
   with-markets : (m : _) → marketsHold m ≡ true → HeldDay (withMarkets d m)
   with-markets m hm =
@@ -184,7 +184,7 @@ module _ (f : Figures) (a : Accounts) (h : HeldFigures f) where
   close-kept : Passed f call.Close a → HeldFigures (figuresAfter f call.Close)
   unfolding figuresAfter
   close-kept p =
-      let t = none (leb mostDays (f .closed)) (dayForbids f call.Close ∷ []) (p .day) in
+      let t = none (leb mostDays (f .closed)) (dayForbids (f .day) call.Close ∷ []) (p .day) in
       record { size = h .size; closed = omega (tests, t 0); price = h .day .price; index = h .day .index; day = empty-day }
 
   pub held-after : (c : Call) (volume : ℕ) → HeldFinal (d .trades .settling) volume → Passed f c a → HeldFigures (figuresAfter f c)

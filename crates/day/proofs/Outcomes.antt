@@ -10,10 +10,10 @@ use Rattle.day.specs.declared.figures.Figures.{Figures}
 use Rattle.day.specs.declared.outcome.Outcome.{Outcome}
 use Rattle.day.specs.Effects.{figuresAfter, fixingOf}
 use Rattle.day.specs.Refusals.{figuresRefusal}
-use Rattle.day.specs.Outcome.{unchanged, outcome}
+use Rattle.day.specs.Outcome.{numbered, outcome}
 
 module _ (f : Figures) (c : Call) {code : ℕ} (is : code ≡ figuresRefusal f c) where
-  pub refused-is : {r : Outcome} → (code ≡ 0 → ⊥) → r ≡ unchanged f code → r ≡ outcome f c
+  pub refused-is : {r : Outcome} → (code ≡ 0 → ⊥) → r ≡ numbered f code → r ≡ outcome f c
   refused-is {r} h e = e ∙ rw (← is, ne-eqb code 0 h)
 
   pub accepted-is : {r : Outcome} → code ≡ 0 → r ≡ record { code = 0; fixing = fixingOf f c; figures = figuresAfter f c } → r ≡ outcome f c

@@ -2,6 +2,7 @@
 use mathlib.Core.Bool.{Bool, true, false, cond}
 use Prim.Native.Nat.{ℕ, _+_}
 use lib.IntN.{ℤ, pos}
+use Rattle.funding.specs.declared.FinalMinute.{FinalMinute}
 use Rattle.funding.specs.Minute.{basisOf, accrued}
 use Rattle.funding.specs.Fixing.{rateOf, clampedTo, amountOf, settlementPrice}
 use Rattle.day.specs.declared.market.Market.{Market}
@@ -41,12 +42,13 @@ withDay f halted d = record { size = f .size; closed = f .closed; halted = halte
 abbrev pub quoted : Markets → Market → Markets
 quoted m q = record { standing = q; minute = asMinute q (m .minute) }
 
--- 01: "The price becomes the day's last trade, whatever its kind"; a kind 0 trade of the last minute counts towards the settlement price
+-- a kind 0 trade of the last minute counts towards the settlement price
+abbrev pub settlingAfter : Day → Trade → FinalMinute
+settlingAfter d t = cond (isFinal (dayLength d) (d .minutes .ended) t) (withTrade (d .trades .settling) t) (d .trades .settling)
+
+-- 01: "The price becomes the day's last trade, whatever its kind"
 abbrev pub traded : Day → Trade → Trades
-traded d t = record {
-  last = t .price;
-  settling = cond (isFinal (dayLength d) (d .minutes .ended) t) (withTrade (d .trades .settling) t) (d .trades .settling);
-}
+traded d t = record { last = t .price; settling = settlingAfter d t }
 
 -- S after a minute with this index
 abbrev pub weightedAfter : Day → Bool → ℕ → ℤ

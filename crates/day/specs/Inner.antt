@@ -9,6 +9,9 @@ use Rattle.day.specs.declared.trade.Trade.{Trade}
 use Rattle.day.specs.declared.Day.{Day}
 use Rattle.day.specs.declared.figures.Figures.{Figures}
 use Rattle.day.specs.Day.{minuteOf}
+use Rattle.day.specs.declared.outcome.Fixing.{Fixing}
+use Rattle.day.specs.declared.outcome.Outcome.{Outcome}
+use Rattle.day.specs.Effects.{withDay}
 use Rattle.day.specs.Opening.{tenth}
 
 -- n and the gross have room for a trade
@@ -27,3 +30,7 @@ pub record Endable (d : Day) (valid : Bool) (u : ℕ) : Type 0 where
 pub record Fixable (f : Figures) : Type 0 where
   pub gross : f .day .trades .settling .gross ≤ largestPrice * f .day .trades .settling .contracts
   pub size : f .size ≤ tenth
+
+-- no refusal, with what a fix found
+abbrev pub changed : Figures → Bool → Day → Fixing → Outcome
+changed f halted d x = record { code = 0; fixing = x; figures = withDay f halted d }

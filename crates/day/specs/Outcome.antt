@@ -1,4 +1,4 @@
--- What a call makes of the figures where its accounts give no refusal.
+-- What a call makes of the figures.
 use mathlib.Core.Bool.{cond}
 use Prim.Native.Nat.{ℕ}
 use lib.Dec.{eqb}
@@ -8,13 +8,9 @@ use Rattle.day.specs.declared.outcome.Outcome.{Outcome}
 use Rattle.day.specs.Effects.{noFixing, figuresAfter, fixingOf}
 use Rattle.day.specs.Refusals.{figuresRefusal}
 
--- a refusal's number and the same figures
-abbrev pub unchanged : Figures → ℕ → Outcome
-unchanged f number = record { code = number; fixing = noFixing; figures = f }
-
--- no number and other figures
-abbrev pub changed : Figures → Outcome
-changed f = unchanged f 0
+-- figures with a refusal's number, 0 for none, and no fix
+abbrev pub numbered : Figures → ℕ → Outcome
+numbered f number = record { code = number; fixing = noFixing; figures = f }
 
 -- what a call with this number comes to
 abbrev pub outcomeBy : ℕ → Figures → Call → Outcome
@@ -24,5 +20,6 @@ outcomeBy number f c = record {
   figures = cond (eqb number 0) (figuresAfter f c) f;
 }
 
+-- and a call whose accounts give no refusal
 abbrev pub outcome : Figures → Call → Outcome
 outcome f c = outcomeBy (figuresRefusal f c) f c

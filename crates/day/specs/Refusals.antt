@@ -6,6 +6,7 @@ use lib.Dec.{leb, ltb, eqb}
 use Rattle.funding.specs.Price.{isPrice, isTicked, isPresent, noneOrPrice, noneOrTicked}
 use Rattle.day.specs.declared.trade.Trade.{Trade}
 use Rattle.day.specs.declared.call.Call.{Call}
+use Rattle.day.specs.declared.Day.{Day}
 use Rattle.day.specs.declared.figures.Figures.{Figures}
 use Rattle.day.specs.Calls.{onQuote, onTrade, onHalt, onResume, onMinuteEnd, onFix, onClose}
 use Rattle.day.specs.Day.{dayLength, isFixed, simple, block}
@@ -17,15 +18,18 @@ abbrev pub isFull : Figures → Bool
 isFull f = leb mostDays (f .closed)
 
 -- 3: "a minute end after 1,320 or after a fix; a fix before 1,320 or twice; a close without a fix"
-abbrev pub dayForbids : Figures → Call → Bool
-dayForbids f c =
-    onMinuteEnd (λ u. leb (dayLength (f .day)) (f .day .minutes .ended) || isFixed (f .day))
-    (onFix (λ set. ltb (f .day .minutes .ended) (dayLength (f .day)) || isFixed (f .day))
-    (onClose (not (isFixed (f .day))) false c) c) c
+abbrev pub forbidsMinuteEnd : Day → Bool
+forbidsMinuteEnd d = leb (dayLength d) (d .minutes .ended) || isFixed d
+
+abbrev pub forbidsFix : Day → Bool
+forbidsFix d = ltb (d .minutes .ended) (dayLength d) || isFixed d
+
+abbrev pub dayForbids : Day → Call → Bool
+dayForbids d c = onMinuteEnd (λ u. forbidsMinuteEnd d) (onFix (λ set. forbidsFix d) (onClose (not (isFixed d)) false c) c) c
 
 -- 3: "The day doesn't allow the call"
 abbrev pub notAllowed : Figures → Call → Bool
-notAllowed f c = isFull f || dayForbids f c
+notAllowed f c = isFull f || dayForbids (f .day) c
 
 -- 4: "A trade, quote or halt comes while halted, or a resume while not"
 abbrev pub haltForbids : Figures → Call → Bool

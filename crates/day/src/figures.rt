@@ -3,18 +3,16 @@ ghost use mathlib.Core.Path.{_≡_};
 ghost use mathlib.Core.Bool.{true};
 ghost use mathlib.Core.List.{[], _∷_};
 ghost use Prim.Native.Nat.{_≤_};
-ghost use Rattle.day.specs.Day.{termsOn, tieOn, isValid};
+ghost use Rattle.day.specs.Day.{termsOn, tieOn};
 ghost use Rattle.day.specs.Limits.{mostDays, figuresHold};
 ghost use Rattle.day.specs.Effects.{fixPrice, fixingAt, figuresAfter};
 ghost use Rattle.day.specs.Refusals.{isFull, firstMet, figuresRefusal};
-ghost use Rattle.day.specs.Outcome.{outcome};
-ghost use Rattle.day.specs.Inner.{RoomForTrade, Fixable};
+ghost use Rattle.day.specs.Outcome.{numbered, outcome};
+ghost use Rattle.day.specs.Inner.{RoomForTrade, Fixable, changed};
 use crate::Day;
-use crate::Fixed;
 use crate::MOST_DAYS;
 use crate::call::Call;
 use crate::market::Market;
-use crate::market::Markets;
 use crate::outcome::Fixing;
 use crate::outcome::Outcome;
 use crate::product::Product;
@@ -86,18 +84,27 @@ impl Figures {
         0
     }
 
+    // No refusal, with what a fix found, and the figures with another halt and another day.
+    fn changed(mut self, halted: bool, day: Day, fixing: Fixing) -> Outcome
+        ensures { λ r. ⌜ r ≡ changed self halted day fixing ⌝ }
+    {
+        self.halted = halted;
+        self.day = day;
+        Outcome {
+            code: 0,
+            fixing,
+            figures: self,
+        }
+    }
+
     pub fn quote(self, market: Market) -> Outcome
         ensures { λ r. ⌜ r ≡ outcome self (Call.Quote market) ⌝ }
     {
         let code = self.quote_code(market);
         if code != 0 {
-            return Outcome::unchanged(self, code);
+            return Outcome::numbered(self, code);
         }
-        let mut day = self.day;
-        day.markets = self.day.markets.quoted(market);
-        let mut after = self;
-        after.day = day;
-        Outcome::changed(after)
+        self.changed(self.halted, self.day.quoted(market), Fixing::none())
     }
 
     // The number of a trade's refusal where its accounts give none, 0 for none.
@@ -116,16 +123,12 @@ impl Figures {
         0
     }
 
-    // The figures after a trade. Room for it in n and in the gross is required.
-    pub fn traded(self, t: Trade) -> Figures
+    // An accepted trade. Room for it in n and in the gross is required.
+    pub fn traded(self, t: Trade) -> Outcome
         requires { ⌜ RoomForTrade (self .day .trades .settling) t ⌝ }
-        ensures { λ r. ⌜ r ≡ figuresAfter self (Call.Trade t) ⌝ }
+        ensures { λ r. ⌜ r ≡ numbered (figuresAfter self (Call.Trade t)) 0 ⌝ }
     {
-        let mut day = self.day;
-        day.trades = self.day.traded(t);
-        let mut after = self;
-        after.day = day;
-        after
+        self.changed(self.halted, self.day.traded(t), Fixing::none())
     }
 
     // The number of a halt's or a resumption's refusal, 0 for none. The halt forbids the one, and that there is none the other.
@@ -146,14 +149,9 @@ impl Figures {
     {
         let code = self.halt_code(self.halted);
         if code != 0 {
-            return Outcome::unchanged(self, code);
+            return Outcome::numbered(self, code);
         }
-        let mut day = self.day;
-        day.markets = Markets::none();
-        let mut after = self;
-        after.halted = true;
-        after.day = day;
-        Outcome::changed(after)
+        self.changed(true, self.day.without_markets(), Fixing::none())
     }
 
     pub fn resume(self) -> Outcome
@@ -161,36 +159,16 @@ impl Figures {
     {
         let code = self.halt_code(!self.halted);
         if code != 0 {
-            return Outcome::unchanged(self, code);
+            return Outcome::numbered(self, code);
         }
-        let mut after = self;
-        after.halted = false;
-        Outcome::changed(after)
-    }
-
-    // Whether the minute that ends with this index is valid.
-    fn is_valid(self, index: u32) -> bool
-        ensures { λ r. ⌜ r ≡ isValid (termsOn self) (self .halted) (self .day .markets .minute) index ⌝ }
-    {
-        let minute = self.day.markets.minute;
-        if self.halted {
-            return false;
-        }
-        if !minute.is_two_sided() {
-            return false;
-        }
-        if index == 0 {
-            return false;
-        }
-        funding::within_spread(minute.bid, minute.offer, self.terms())
+        self.changed(false, self.day, Fixing::none())
     }
 
     // The number of a minute end's refusal, 0 for none.
     fn minute_end_code(self, index: u32) -> u8
         ensures { λ r. ⌜ r ≡ figuresRefusal self (Call.MinuteEnd index) ⌝ }
     {
-        let day = self.day;
-        if self.is_full() | ((day.length() <= day.minutes.ended) | day.is_fixed()) {
+        if self.is_full() | self.day.forbids_minute_end() {
             return 3;
         }
         if !none_or_price(index) {
@@ -206,14 +184,17 @@ impl Figures {
     {
         let code = self.minute_end_code(index);
         if code != 0 {
-            return Outcome::unchanged(self, code);
+            return Outcome::numbered(self, code);
         }
-        let mut day = self.day;
-        day.markets = self.day.markets.next_minute();
-        day.minutes = self.day.minute_ended(self.is_valid(index), index);
-        let mut after = self;
-        after.day = day;
-        Outcome::changed(after)
+        let valid = self.day
+            .markets
+            .minute
+            .is_valid(self.halted, index, self.terms());
+        self.changed(
+            self.halted,
+            self.day.minute_ended(valid, index),
+            Fixing::none(),
+        )
     }
 
     // What a fix with this set price finds. A gross and a size within their limits are required, so that the figures fit.
@@ -221,20 +202,16 @@ impl Figures {
         requires { ⌜ Fixable self ⌝ }
         ensures { λ r. ⌜ r ≡ fixingAt self set ⌝ }
     {
-        let day = self.day;
-        let price = funding::settlement_price(
-            set,
-            day.trades.settling,
-            day.minutes.index,
-            self.previous,
-        );
-        let rate = funding::rate(day.minutes.valid, day.minutes.weighted);
+        let settling = self.day.trades.settling;
+        let minutes = self.day.minutes;
+        let price = funding::settlement_price(set, settling, minutes.index, self.previous);
+        let rate = funding::rate(minutes.valid, minutes.weighted);
         let clamped = funding::clamp(rate, self.terms());
         Fixing {
             price,
             rate: clamped,
             amount: funding::amount(clamped, price, self.size, self.tie()),
-            valid: day.minutes.valid,
+            valid: minutes.valid,
         }
     }
 
@@ -243,8 +220,7 @@ impl Figures {
         requires { ⌜ price ≡ fixPrice self set ⌝ }
         ensures { λ r. ⌜ r ≡ figuresRefusal self (Call.Fix set) ⌝ }
     {
-        let day = self.day;
-        if self.is_full() | ((day.minutes.ended < day.length()) | day.is_fixed()) {
+        if self.is_full() | self.day.forbids_fix() {
             return 3;
         }
         if !none_or_price(set) {
@@ -263,48 +239,37 @@ impl Figures {
         let fixing = self.fixing(set);
         let code = self.fix_code(set, fixing.price);
         if code != 0 {
-            return Outcome::unchanged(self, code);
+            return Outcome::numbered(self, code);
         }
-        let mut day = self.day;
-        let fixed = Fixed {
-            price: fixing.price,
-            amount: fixing.amount,
-        };
-        day.fixed = fixed;
-        let mut after = self;
-        after.day = day;
-        Outcome {
-            code: 0,
+        self.changed(
+            self.halted,
+            self.day.fixed(fixing.price, fixing.amount),
             fixing,
-            figures: after,
-        }
+        )
     }
 
     // The number of a close's refusal, 0 for none.
     pub fn close_code(self) -> u8
         ensures { λ r. ⌜ r ≡ figuresRefusal self Call.Close ⌝ }
     {
-        if self.is_full() | !self.day.is_fixed() {
-            3
-        } else {
-            0
+        if self.is_full() | !(self.day.fixed.price != 0) {
+            return 3;
         }
+        0
     }
 
-    // The figures after a close.
-    pub fn closed_day(self) -> Figures
+    // An accepted close.
+    pub fn closed_day(mut self) -> Outcome
         requires { ⌜ self .closed ≤ mostDays ⌝ }
-        ensures { λ r. ⌜ r ≡ figuresAfter self Call.Close ⌝ }
+        ensures { λ r. ⌜ r ≡ numbered (figuresAfter self Call.Close) 0 ⌝ }
     {
-        Figures {
-            size: self.size,
-            closed: self.closed + 1,
-            halted: self.halted,
-            previous: Previous {
-                price: self.day.fixed.price,
-                index: self.day.minutes.index,
-            },
-            day: Day::empty(),
-        }
+        let previous = Previous {
+            price: self.day.fixed.price,
+            index: self.day.minutes.index,
+        };
+        self.previous = previous;
+        self.closed = self.closed + 1;
+        self.day = Day::empty();
+        Outcome::numbered(self, 0)
     }
 }

@@ -3,14 +3,19 @@ ghost use mathlib.Core.Path.{_≡_};
 ghost use mathlib.Core.Bool.{cond};
 ghost use Prim.Native.Nat.{_+_, _≤_};
 ghost use Rattle.funding.specs.Minute.{mostMinutes};
-ghost use Rattle.day.specs.Day.{dayLength, emptyDay, isFixed, inLastMinute};
-ghost use Rattle.day.specs.Limits.{minutesHold, pricesHold, fixHolds, dayHolds};
-ghost use Rattle.day.specs.Effects.{traded, weightedAfter, minuteEnded};
+ghost use Rattle.day.specs.Day.{dayLength, noMarkets, emptyDay, inLastMinute};
+ghost use Rattle.day.specs.Limits.{minutesHold, dayHolds};
+ghost use Rattle.day.specs.Effects.{withMarkets, withMinutes, withTrades, withFixed};
+ghost use Rattle.day.specs.Effects.{settlingAfter, weightedAfter, minuteEnded, nextMinute};
+ghost use Rattle.day.specs.Effects.{quoted as Effects·quoted};
+ghost use Rattle.day.specs.Effects.{traded as Effects·traded};
+ghost use Rattle.day.specs.Refusals.{forbidsMinuteEnd, forbidsFix};
 ghost use Rattle.day.specs.Inner.{RoomForTrade, Endable};
 use funding::FinalMinute;
 use funding::MOST_MINUTES;
 use funding::none_or_price;
 use integers::is_within;
+use market::Market;
 use market::Markets;
 use trade::Trade;
 
@@ -91,12 +96,6 @@ impl Day {
         MOST_MINUTES
     }
 
-    pub(crate) fn is_fixed(self) -> bool
-        ensures { λ r. ⌜ r ≡ isFixed self ⌝ }
-    {
-        self.fixed.price != 0
-    }
-
     fn is_in_last_minute(self) -> bool
         ensures { λ r. ⌜ r ≡ inLastMinute (dayLength self) (self .minutes .ended) ⌝ }
     {
@@ -114,43 +113,70 @@ impl Day {
         }
     }
 
-    fn prices_hold(self) -> bool
-        ensures { λ r. ⌜ r ≡ pricesHold self ⌝ }
-    {
-        none_or_price(self.trades.last)
-            & none_or_price(self.minutes.index)
-            & none_or_price(self.fixed.price)
-            & is_within(self.fixed.amount, MOST_AMOUNT)
-    }
-
-    fn fix_holds(self) -> bool
-        ensures { λ r. ⌜ r ≡ fixHolds self ⌝ }
-    {
-        !self.is_fixed() | (self.minutes.ended == self.length())
-    }
-
     // Whether the day is within its limits.
     pub(crate) fn holds(self) -> bool
         ensures { λ r. ⌜ r ≡ dayHolds self ⌝ }
     {
-        self.minutes_hold() & self.markets.holds() & self.prices_hold() & self.fix_holds()
+        let prices = none_or_price(self.trades.last)
+            & none_or_price(self.minutes.index)
+            & none_or_price(self.fixed.price)
+            & is_within(self.fixed.amount, MOST_AMOUNT);
+        let fix = !(self.fixed.price != 0) | (self.minutes.ended == self.length());
+        self.minutes_hold() & self.markets.holds() & prices & fix
     }
 
-    // What trades set, after one more. Room for it in n and in the gross is required.
-    pub(crate) fn traded(self, t: Trade) -> Trades
-        requires { ⌜ RoomForTrade (self .trades .settling) t ⌝ }
-        ensures { λ r. ⌜ r ≡ traded self t ⌝ }
+    // 3: whether a minute end, or a fix, comes at a time that the day doesn't allow.
+    pub(crate) fn forbids_minute_end(self) -> bool
+        ensures { λ r. ⌜ r ≡ forbidsMinuteEnd self ⌝ }
     {
-        let mut after = self.trades;
-        after.last = t.price;
+        (self.length() <= self.minutes.ended) | (self.fixed.price != 0)
+    }
+
+    pub(crate) fn forbids_fix(self) -> bool
+        ensures { λ r. ⌜ r ≡ forbidsFix self ⌝ }
+    {
+        (self.minutes.ended < self.length()) | (self.fixed.price != 0)
+    }
+
+    pub(crate) fn quoted(mut self, market: Market) -> Day
+        ensures { λ r. ⌜ r ≡ withMarkets self (Effects·quoted (self .markets) market) ⌝ }
+    {
+        self.markets = self.markets.quoted(market);
+        self
+    }
+
+    pub(crate) fn without_markets(mut self) -> Day
+        ensures { λ r. ⌜ r ≡ withMarkets self noMarkets ⌝ }
+    {
+        self.markets = Markets::none();
+        self
+    }
+
+    // The trades of the last minute, after one more. Room for it in n and in the gross is required.
+    fn settling_after(self, t: Trade) -> FinalMinute
+        requires { ⌜ RoomForTrade (self .trades .settling) t ⌝ }
+        ensures { λ r. ⌜ r ≡ settlingAfter self t ⌝ }
+    {
         if self.is_in_last_minute() & (t.kind == Trade::SIMPLE) {
-            let settling = FinalMinute {
+            FinalMinute {
                 contracts: self.trades.settling.contracts + t.quantity,
                 gross: self.trades.settling.gross + t.quantity as u64 * t.price as u64,
-            };
-            after.settling = settling;
+            }
+        } else {
+            self.trades.settling
         }
-        after
+    }
+
+    pub(crate) fn traded(mut self, t: Trade) -> Day
+        requires { ⌜ RoomForTrade (self .trades .settling) t ⌝ }
+        ensures { λ r. ⌜ r ≡ withTrades self (Effects·traded self t) ⌝ }
+    {
+        let trades = Trades {
+            last: t.price,
+            settling: self.settling_after(t),
+        };
+        self.trades = trades;
+        self
     }
 
     // The weighted sum after a minute, valid or not.
@@ -189,16 +215,26 @@ impl Day {
         }
     }
 
-    // What minute ends set, after one more.
-    pub(crate) fn minute_ended(self, valid: bool, index: u32) -> Minutes
+    pub(crate) fn minute_ended(mut self, valid: bool, index: u32) -> Day
         requires { ⌜ Endable self valid index ⌝ }
-        ensures { λ r. ⌜ r ≡ minuteEnded self valid index ⌝ }
+        ensures { λ r. ⌜ r ≡ withMinutes (withMarkets self (nextMinute (self .markets))) (minuteEnded self valid index) ⌝ }
     {
-        let mut after = self.minutes;
-        after.index = self.index_after(index);
-        after.weighted = self.weighted_after(valid, index);
-        after.valid = self.valid_after(valid);
-        after.ended = self.minutes.ended + 1;
-        after
+        let minutes = Minutes {
+            ended: self.minutes.ended + 1,
+            valid: self.valid_after(valid),
+            weighted: self.weighted_after(valid, index),
+            index: self.index_after(index),
+        };
+        self.markets = self.markets.next_minute();
+        self.minutes = minutes;
+        self
+    }
+
+    pub(crate) fn fixed(mut self, price: u32, amount: i64) -> Day
+        ensures { λ r. ⌜ r ≡ withFixed self (record { price = price; amount = amount }) ⌝ }
+    {
+        let fixed = Fixed { price, amount };
+        self.fixed = fixed;
+        self
     }
 }

@@ -1,8 +1,9 @@
 // A market, and the markets of a day.
 ghost use mathlib.Core.Path.{_≡_};
-ghost use Rattle.day.specs.Day.{noMarket, noMarkets, twoSided, asMinute};
+ghost use Rattle.day.specs.Day.{noMarkets, twoSided, asMinute, isValid};
 ghost use Rattle.day.specs.Limits.{uncrossed, marketHolds, minuteMarketHolds, marketsHold};
 ghost use Rattle.day.specs.Effects.{quoted, nextMinute};
+use funding::Terms;
 use funding::none_or_ticked;
 
 // A market, or one side of it: 0 where a side doesn't stand.
@@ -18,13 +19,7 @@ pub struct Markets {
 }
 
 impl Market {
-    fn none() -> Self
-        ensures { λ r. ⌜ r ≡ noMarket ⌝ }
-    {
-        Self { bid: 0, offer: 0 }
-    }
-
-    pub(crate) fn is_two_sided(self) -> bool
+    fn is_two_sided(self) -> bool
         ensures { λ r. ⌜ r ≡ twoSided self ⌝ }
     {
         (self.bid != 0) & (self.offer != 0)
@@ -41,6 +36,22 @@ impl Market {
         ensures { λ r. ⌜ r ≡ asMinute self otherwise ⌝ }
     {
         if self.is_two_sided() { self } else { otherwise }
+    }
+
+    // Whether the minute that ends with this market and this index is valid.
+    pub(crate) fn is_valid(self, halted: bool, index: u32, terms: Terms) -> bool
+        ensures { λ r. ⌜ r ≡ isValid terms halted self index ⌝ }
+    {
+        if halted {
+            return false;
+        }
+        if !self.is_two_sided() {
+            return false;
+        }
+        if index == 0 {
+            return false;
+        }
+        funding::within_spread(self.bid, self.offer, terms)
     }
 
     fn holds(self) -> bool
@@ -61,8 +72,8 @@ impl Markets {
         ensures { λ r. ⌜ r ≡ noMarkets ⌝ }
     {
         Self {
-            standing: Market::none(),
-            minute: Market::none(),
+            standing: Market { bid: 0, offer: 0 },
+            minute: Market { bid: 0, offer: 0 },
         }
     }
 
@@ -86,7 +97,7 @@ impl Markets {
         ensures { λ r. ⌜ r ≡ nextMinute self ⌝ }
     {
         let mut after = self;
-        after.minute = self.standing.as_minute(Market::none());
+        after.minute = self.standing.as_minute(Market { bid: 0, offer: 0 });
         after
     }
 }

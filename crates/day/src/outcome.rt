@@ -1,8 +1,7 @@
 // What a call makes of the figures.
 ghost use mathlib.Core.Path.{_≡_};
 ghost use Rattle.day.specs.Effects.{noFixing};
-ghost use Rattle.day.specs.Outcome.{unchanged as Outcome·unchanged};
-ghost use Rattle.day.specs.Outcome.{changed as Outcome·changed};
+ghost use Rattle.day.specs.Outcome.{numbered as Outcome·numbered};
 use crate::figures::Figures;
 
 // What a fix prints; zeros for any other call.
@@ -36,21 +35,11 @@ impl Fixing {
 }
 
 impl Outcome {
-    pub fn unchanged(figures: Figures, code: u8) -> Self
-        ensures { λ r. ⌜ r ≡ Outcome·unchanged figures code ⌝ }
+    pub fn numbered(figures: Figures, code: u8) -> Self
+        ensures { λ r. ⌜ r ≡ Outcome·numbered figures code ⌝ }
     {
         Self {
             code,
-            fixing: Fixing::none(),
-            figures,
-        }
-    }
-
-    pub fn changed(figures: Figures) -> Self
-        ensures { λ r. ⌜ r ≡ Outcome·changed figures ⌝ }
-    {
-        Self {
-            code: 0,
             fixing: Fixing::none(),
             figures,
         }

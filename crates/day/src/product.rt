@@ -4,7 +4,6 @@ ghost use Rattle.funding.specs.Terms.{standardTerms};
 ghost use Rattle.day.specs.Opening.{hundredth, tenth, isSize, freshFigures, opened};
 use crate::Day;
 use crate::figures::Figures;
-use crate::outcome::Fixing;
 use crate::outcome::Outcome;
 use funding::Previous;
 use funding::Terms;
@@ -59,12 +58,12 @@ impl Product {
         }
     }
 
-    // The figures of a fresh book of this product.
-    fn fresh_figures(self) -> Figures
-        ensures { λ r. ⌜ r ≡ freshFigures (self .size) ⌝ }
+    // The figures of a fresh book of this size.
+    fn fresh_figures(size: u32) -> Figures
+        ensures { λ r. ⌜ r ≡ freshFigures size ⌝ }
     {
         Figures {
-            size: self.size,
+            size,
             closed: 0,
             halted: false,
             previous: Previous { price: 0, index: 0 },
@@ -76,20 +75,9 @@ impl Product {
     pub fn opening(size: u32) -> Outcome
         ensures { λ r. ⌜ r ≡ opened size ⌝ }
     {
-        if Product::is_size(size) {
-            let product = Product { size };
-            Outcome {
-                code: 0,
-                fixing: Fixing::none(),
-                figures: product.fresh_figures(),
-            }
-        } else {
-            let none = Product { size: 0 };
-            Outcome {
-                code: 5,
-                fixing: Fixing::none(),
-                figures: none.fresh_figures(),
-            }
+        if !Product::is_size(size) {
+            return Outcome::numbered(Product::fresh_figures(0), 5);
         }
+        Outcome::numbered(Product::fresh_figures(size), 0)
     }
 }

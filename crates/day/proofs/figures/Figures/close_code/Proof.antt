@@ -6,14 +6,11 @@ use Rattle.day.proofs.figures.Figures.close_code.Tie as tie
 is-full-requires : tie.Need-is-full-requires
 is-full-requires c κs = search needs
 
-is-fixed-requires : tie.Need-is-fixed-requires
-is-fixed-requires c κs = search needs
-
 returns : tie.Need-returns
-returns c = rw (← c .before .before .is-full .ensures, ← c .before .is-fixed .ensures, c .if1 .taken)
+returns c = rw (← c .before .before .is-full .ensures, c .if1 .taken)
 
 returns-2 : tie.Need-returns-2
-returns-2 c = rw (← c .before .before .is-full .ensures, ← c .before .is-fixed .ensures, c .if1 .left)
+returns-2 c = rw (← c .before .before .is-full .ensures, c .if1 .left)
 
 pub close-code-spec : {M : Type 1} → statement M
-close-code-spec = tie.close (tie.spec is-full-requires is-fixed-requires returns returns-2)
+close-code-spec = tie.close (tie.spec is-full-requires returns returns-2)

@@ -6,14 +6,11 @@ use Rattle.day.proofs.figures.Figures.fix_code.Tie as tie
 is-full-requires : tie.Need-is-full-requires
 is-full-requires c κs = search needs
 
-length-requires : tie.Need-length-requires
-length-requires c κs = search needs
-
-is-fixed-requires : tie.Need-is-fixed-requires
-is-fixed-requires c κs = search needs
+forbids-fix-requires : tie.Need-forbids-fix-requires
+forbids-fix-requires c κs = search needs
 
 returns : tie.Need-returns
-returns c = let e = c .before in rw (← e .before .before .before .is-full .ensures, ← e .before .before .length .ensures, ← e .is-fixed .ensures, c .if1 .taken)
+returns c = rw (← c .before .before .is-full .ensures, ← c .before .forbids-fix .ensures, c .if1 .taken)
 
 none-or-price-requires : tie.Need-none-or-price-requires
 none-or-price-requires c κs = search needs
@@ -21,29 +18,28 @@ none-or-price-requires c κs = search needs
 returns-2 : tie.Need-returns-2
 returns-2 c =
     let e = c .before .before in
-    rw (← e .before .before .before .before .is-full .ensures, ← e .before .before .before .length .ensures, ← e .before .is-fixed .ensures, e .if1 .left, ← c .before .none-or-price .ensures, c .if2 .taken)
+    rw (← e .before .before .is-full .ensures, ← e .before .forbids-fix .ensures, e .if1 .left, ← c .before .none-or-price .ensures, c .if2 .taken)
 
 returns-3 : tie.Need-returns-3
 returns-3 c =
     let o = c .before in
     let e = o .before .before in
-    let s = e .before .before .before .before .before .before in
-    rw (← e .before .before .before .before .is-full .ensures, ← e .before .before .before .length .ensures, ← e .before .is-fixed .ensures, e .if1 .left, ← o .before .none-or-price .ensures, o .if2 .left, ← s .pre, c .if3 .taken)
+    let s = e .before .before .before in
+    rw (← e .before .before .is-full .ensures, ← e .before .forbids-fix .ensures, e .if1 .left, ← o .before .none-or-price .ensures, o .if2 .left, ← s .pre, c .if3 .taken)
 
 returns-4 : tie.Need-returns-4
 returns-4 c =
     let o = c .before in
     let e = o .before .before in
-    let s = e .before .before .before .before .before .before in
-    rw (← e .before .before .before .before .is-full .ensures, ← e .before .before .before .length .ensures, ← e .before .is-fixed .ensures, e .if1 .left, ← o .before .none-or-price .ensures, o .if2 .left, ← s .pre, c .if3 .left)
+    let s = e .before .before .before in
+    rw (← e .before .before .is-full .ensures, ← e .before .forbids-fix .ensures, e .if1 .left, ← o .before .none-or-price .ensures, o .if2 .left, ← s .pre, c .if3 .left)
 
 pub fix-code-spec : {M : Type 1} → statement M
 fix-code-spec =
     tie.close
     (tie.spec
     is-full-requires
-    length-requires
-    is-fixed-requires
+    forbids-fix-requires
     returns
     none-or-price-requires
     returns-2

@@ -15,9 +15,9 @@ use Rattle.day.proofs.figures.Figures.fixing.Statement.{statement}
 use Rattle.day.proofs.figures.Figures.fixing.Tie as tie
 
 -- the clamped rate
-rate-is : (c : tie.After-clamp) → toZ w64 (ofZ w64 (c .clamp .result)) ≡ fixRate (c .before .before .before .before .before .before .args .self)
+rate-is : (c : tie.After-clamp) → toZ w64 (ofZ w64 (c .clamp .result)) ≡ fixRate (c .before .before .before .before .before .before .before .args .self)
 rate-is c =
-    let m = c .before .before .before .before .before .before .args .self .day .minutes in
+    let m = c .before .before .before .before .before .before .before .args .self .day .minutes in
     let s : SFits w64 (m .weighted) = search needs in
     toZ-ofZ (record { sfits = c .clamp .ok }) ∙ c .clamp .ensures
     ∙ ap₂ clampedTo (c .before .terms .ensures) (toZ-ofZ (record { sfits = c .before .before .rate .ok }) ∙ c .before .before .rate .ensures ∙ ap (rateOf (m .valid)) (toZ-ofZ s))
@@ -40,7 +40,7 @@ tie-requires c κs = search needs
 amount-requires : tie.Need-amount-requires
 amount-requires c κs =
     let k = c .before in
-    let s = k .before .before .before .before .before .before in
+    let s = k .before .before .before .before .before .before .before in
     let f = s .args .self in
     let p : Fits w32 (k .before .before .before .before .settlement-price .result) = search needs in
     rw (rate-is k) (amount-fits (fixRate f) _ (f .size) clamp 4294967295 tenth (rate-size f) (omega (arith, p .fits)) (s .pre .size) (omega arith) (omega arith))

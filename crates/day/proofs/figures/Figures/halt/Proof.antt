@@ -11,14 +11,17 @@ use Rattle.day.proofs.figures.Figures.halt.Tie as tie
 halt-code-requires : tie.Need-halt-code-requires
 halt-code-requires c κs = search needs
 
-unchanged-requires : tie.Need-unchanged-requires
-unchanged-requires c κs = search needs
+numbered-requires : tie.Need-numbered-requires
+numbered-requires c κs = search needs
 
 returns : tie.Need-returns
 returns c =
     let t = c .before in
     let a = t .before .before .args in
-    refused-is (a .self) call.Halt (t .before .halt-code .ensures ∙ rw or-false) (t .if1 .taken) (c .unchanged .ensures)
+    refused-is (a .self) call.Halt (t .before .halt-code .ensures ∙ rw or-false) (t .if1 .taken) (c .numbered .ensures)
+
+without-markets-requires : tie.Need-without-markets-requires
+without-markets-requires c κs = search needs
 
 none-requires : tie.Need-none-requires
 none-requires c κs = search needs
@@ -31,15 +34,16 @@ unfolding figuresAfter fixingOf
 returns-2 c =
     let t = c .before .before .before in
     let a = t .before .before .args in
-    accepted-is (a .self) call.Halt (t .before .halt-code .ensures ∙ rw or-false) (t .if1 .left) (c .changed .ensures ∙ rw (c .before .none .ensures))
+    accepted-is (a .self) call.Halt (t .before .halt-code .ensures ∙ rw or-false) (t .if1 .left) (c .changed .ensures ∙ rw (c .before .none .ensures, c .before .before .without-markets .ensures))
 
 pub halt-spec : {M : Type 1} → statement M
 halt-spec =
     tie.close
     (tie.spec
     halt-code-requires
-    unchanged-requires
+    numbered-requires
     returns
+    without-markets-requires
     none-requires
     changed-requires
     returns-2)

@@ -33,27 +33,32 @@ present f u v =
     some zero h = absurd (h refl)
     some (suc u) h = omega arith
 
+-- whether the minute is valid, under the terms in force
+is-valid-is : (c : tie.After-is-valid) → let a = c .before .before .before .before .args in
+    c .is-valid .result ≡ isValid (termsOn (a .self)) (a .self .halted) (a .self .day .markets .minute) (a .index)
+is-valid-is c = c .is-valid .ensures ∙ rw (c .before .terms .ensures)
+
 minute-end-code-requires : tie.Need-minute-end-code-requires
 minute-end-code-requires c κs = search needs
 
-unchanged-requires : tie.Need-unchanged-requires
-unchanged-requires c κs = search needs
+numbered-requires : tie.Need-numbered-requires
+numbered-requires c κs = search needs
 
 returns : tie.Need-returns
 returns c =
     let t = c .before in
     let a = t .before .before .args in
-    refused-is (a .self) (call.MinuteEnd (a .index)) (t .before .minute-end-code .ensures) (t .if1 .taken) (c .unchanged .ensures)
+    refused-is (a .self) (call.MinuteEnd (a .index)) (t .before .minute-end-code .ensures) (t .if1 .taken) (c .numbered .ensures)
 
-next-minute-requires : tie.Need-next-minute-requires
-next-minute-requires c κs = search needs
+terms-requires : tie.Need-terms-requires
+terms-requires c κs = search needs
 
 is-valid-requires : tie.Need-is-valid-requires
 is-valid-requires c κs = search needs
 
 minute-ended-requires : tie.Need-minute-ended-requires
 minute-ended-requires c κs =
-    let t = c .before .before .before in
+    let t = c .before .before in
     let s = t .before .before in
     let f = s .args .self in
     let d = f .day in
@@ -61,14 +66,17 @@ minute-ended-requires c κs =
     let k = call.MinuteEnd u in
     let h = held-figures f (s .pre) in
     let p = passed f k noAccounts (sym (t .before .minute-end-code .ensures) ∙ t .if1 .left) in
-    let before : d .minutes .ended < dayLength d = omega (tests, none (leb (dayLength d) (d .minutes .ended)) (isFixed d ∷ []) (none (isFull f) (dayForbids f k ∷ []) (p .day) 1) 0) in
-    let valid : c .is-valid .result ≡ true → isValid (termsOn f) (f .halted) (d .markets .minute) u ≡ true = λ e. sym (c .is-valid .ensures) ∙ e in
+    let before : d .minutes .ended < dayLength d = omega (tests, none (leb (dayLength d) (d .minutes .ended)) (isFixed d ∷ []) (none (isFull f) (dayForbids d k ∷ []) (p .day) 1) 0) in
+    let valid : c .is-valid .result ≡ true → isValid (termsOn f) (f .halted) (d .markets .minute) u ≡ true = λ e. sym (is-valid-is c) ∙ e in
     record {
       ended = before;
       count = omega (arith, h .day .ended, h .day .valid);
       present = λ e. present f u (valid e);
       accrues = λ e. accrues d (h .day) (termsOn f) (f .halted) u before (not-false (noneOrPrice u) (p .field)) (valid e);
     }
+
+none-requires : tie.Need-none-requires
+none-requires c κs = search needs
 
 changed-requires : tie.Need-changed-requires
 changed-requires c κs = search needs
@@ -79,17 +87,18 @@ returns-2 c =
     let t = c .before .before .before .before .before in
     let a = t .before .before .args in
     accepted-is (a .self) (call.MinuteEnd (a .index)) (t .before .minute-end-code .ensures) (t .if1 .left)
-    (c .changed .ensures ∙ rw (c .before .minute-ended .ensures, c .before .before .is-valid .ensures, c .before .before .before .next-minute .ensures))
+    (c .changed .ensures ∙ rw (c .before .none .ensures, c .before .before .minute-ended .ensures, is-valid-is (c .before .before .before)))
 
 pub minute-end-spec : {M : Type 1} → statement M
 minute-end-spec =
     tie.close
     (tie.spec
     minute-end-code-requires
-    unchanged-requires
+    numbered-requires
     returns
-    next-minute-requires
+    terms-requires
     is-valid-requires
     minute-ended-requires
+    none-requires
     changed-requires
     returns-2)

@@ -6,14 +6,11 @@ use Rattle.day.proofs.figures.Figures.minute_end_code.Tie as tie
 is-full-requires : tie.Need-is-full-requires
 is-full-requires c κs = search needs
 
-length-requires : tie.Need-length-requires
-length-requires c κs = search needs
-
-is-fixed-requires : tie.Need-is-fixed-requires
-is-fixed-requires c κs = search needs
+forbids-minute-end-requires : tie.Need-forbids-minute-end-requires
+forbids-minute-end-requires c κs = search needs
 
 returns : tie.Need-returns
-returns c = let e = c .before in rw (← e .before .before .before .is-full .ensures, ← e .before .before .length .ensures, ← e .is-fixed .ensures, c .if1 .taken)
+returns c = rw (← c .before .before .is-full .ensures, ← c .before .forbids-minute-end .ensures, c .if1 .taken)
 
 none-or-price-requires : tie.Need-none-or-price-requires
 none-or-price-requires c κs = search needs
@@ -21,20 +18,19 @@ none-or-price-requires c κs = search needs
 returns-2 : tie.Need-returns-2
 returns-2 c =
     let e = c .before .before in
-    rw (← e .before .before .before .before .is-full .ensures, ← e .before .before .before .length .ensures, ← e .before .is-fixed .ensures, e .if1 .left, ← c .before .none-or-price .ensures, c .if2 .taken)
+    rw (← e .before .before .is-full .ensures, ← e .before .forbids-minute-end .ensures, e .if1 .left, ← c .before .none-or-price .ensures, c .if2 .taken)
 
 returns-3 : tie.Need-returns-3
 returns-3 c =
     let e = c .before .before in
-    rw (← e .before .before .before .before .is-full .ensures, ← e .before .before .before .length .ensures, ← e .before .is-fixed .ensures, e .if1 .left, ← c .before .none-or-price .ensures, c .if2 .left)
+    rw (← e .before .before .is-full .ensures, ← e .before .forbids-minute-end .ensures, e .if1 .left, ← c .before .none-or-price .ensures, c .if2 .left)
 
 pub minute-end-code-spec : {M : Type 1} → statement M
 minute-end-code-spec =
     tie.close
     (tie.spec
     is-full-requires
-    length-requires
-    is-fixed-requires
+    forbids-minute-end-requires
     returns
     none-or-price-requires
     returns-2

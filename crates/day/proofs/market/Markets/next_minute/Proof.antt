@@ -3,14 +3,11 @@ use borrow.Author.Needs.{needs}
 use Rattle.day.proofs.market.Markets.next_minute.Statement.{statement}
 use Rattle.day.proofs.market.Markets.next_minute.Tie as tie
 
-none-requires : tie.Need-none-requires
-none-requires c κs = search needs
-
 as-minute-requires : tie.Need-as-minute-requires
 as-minute-requires c κs = search needs
 
 returns : tie.Need-returns
-returns c = rw (c .as-minute .ensures, c .before .none .ensures)
+returns c = rw (c .as-minute .ensures)
 
 pub next-minute-spec : {M : Type 1} → statement M
-next-minute-spec = tie.close (tie.spec none-requires as-minute-requires returns)
+next-minute-spec = tie.close (tie.spec as-minute-requires returns)
