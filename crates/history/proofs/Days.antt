@@ -47,8 +47,8 @@ closes-passed n s (c ∷ h) a =
 -- ---- a closed day is whole
 
 -- the test of the day that a call passed
-allowed : (n s : ℕ) (h : History) (c : Call) → Passed n (bookFrom n s h) c → dayForbids (figuresFrom s h) c ≡ false
-allowed n s h c p = both-false (isFull (figuresFrom s h)) (dayForbids (figuresFrom s h) c) (p .sentences .day) .1
+allowed : (n s : ℕ) (h : History) (c : Call) → Passed n (bookFrom n s h) c → dayForbids (figuresFrom s h .day) c ≡ false
+allowed n s h c p = both-false (isFull (figuresFrom s h)) (dayForbids (figuresFrom s h .day) c) (p .sentences .day) .1
 
 -- a day has one fix once P stands, and none before
 one-fix : (n s : ℕ) (h : History) → AllPassed n s h → length (fixes h) ≡ cond (isPresent (priceOn h)) 1 0

@@ -8,7 +8,7 @@ use borrow.Author.Tests.{ne-eqb}
 use Rattle.day.specs.declared.call.Call.{Call}
 use Rattle.day.specs.declared.outcome.Outcome.{Outcome}
 use Rattle.day.specs.Effects.{fixingOf}
-use Rattle.day.specs.Outcome.{unchanged}
+use Rattle.day.specs.Outcome.{numbered}
 use Rattle.ledger.specs.declared.Book.{Book}
 use Rattle.ledger.specs.declared.Answer.{Answer}
 use Rattle.ledger.specs.Effects.{effect}
@@ -16,7 +16,7 @@ use Rattle.ledger.specs.Step.{answerBy}
 use Rattle.ledger.specs.Inner.{answerOf}
 
 module _ (n : ℕ) (b : Book) (c : Call) {number code : ℕ} (is : code ≡ number) where
-  pub refused-answer : {r : Outcome} → (code ≡ 0 → ⊥) → r ≡ unchanged (b .figures) code → answerOf r (b .opening) (b .position) (b .cost) (b .volume) (b .cash) ≡ answerBy number n b c
+  pub refused-answer : {r : Outcome} → (code ≡ 0 → ⊥) → r ≡ numbered (b .figures) code → answerOf r (b .opening) (b .position) (b .cost) (b .volume) (b .cash) ≡ answerBy number n b c
   refused-answer {r} h e = ap (λ (r : Outcome). answerOf r (b .opening) (b .position) (b .cost) (b .volume) (b .cash)) e ∙ rw (← is, ne-eqb code 0 h)
 
   pub accepted-answer : {a : Answer} → code ≡ 0 → a ≡ record { code = 0; fixing = fixingOf (b .figures) c; book = effect n b c } → a ≡ answerBy number n b c

@@ -59,11 +59,11 @@ pub fn close_on(
 {
     let code = figures.close_code();
     if code != 0 {
-        return Outcome::unchanged(figures, code);
+        return Outcome::numbered(figures, code);
     }
     post(figures, opening, position, cost, cash);
     *opening = *position;
     *cost = [0; ACCOUNTS];
     *volume = [0; ACCOUNTS];
-    Outcome::changed(figures.closed_day())
+    figures.closed_day()
 }

@@ -3,6 +3,7 @@ ghost use mathlib.Core.Path.{_≡_};
 ghost use lib.ListN.{length};
 ghost use Rattle.ledger.specs.Columns.{accounts};
 ghost use Rattle.ledger.specs.Limits.{withinLimits};
+ghost use Rattle.ledger.specs.Inner.{answerOf};
 ghost use Rattle.ledger.specs.Opening.{opening as Opening·opening};
 ghost use Rattle.ledger.specs.Report.{reportRefusal, reported};
 ghost use Rattle.ledger.specs.Step.{step as Step·step};
@@ -10,11 +11,12 @@ use day::call::Call;
 use day::figures::Figures;
 use day::market::Market;
 use day::outcome::Fixing;
+use day::outcome::Outcome;
 use day::product::Product;
 use day::trade::Trade;
 use limits::limits_hold;
 use report::fill;
-use step::step_on;
+use step::tested_step;
 
 mod close;
 mod limits;
@@ -49,26 +51,48 @@ pub struct Answer {
     pub book: Book,
 }
 
+impl Answer {
+    // What came of the figures, with these columns.
+    fn of(
+        outcome: Outcome,
+        opening: [i64; ACCOUNTS],
+        position: [i64; ACCOUNTS],
+        cost: [i64; ACCOUNTS],
+        volume: [u32; ACCOUNTS],
+        cash: [i64; ACCOUNTS],
+    ) -> Self
+        ensures { λ r. ⌜ r ≡ answerOf outcome opening position cost volume cash ⌝ }
+    {
+        let fixing = outcome.fixing;
+        let figures = outcome.figures;
+        Self {
+            code: outcome.code,
+            fixing,
+            book: Book {
+                figures,
+                opening,
+                position,
+                cost,
+                volume,
+                cash,
+            },
+        }
+    }
+}
+
 impl Book {
     // A fresh book of this size, or refusal 5 with an empty book of size 0.
     pub fn opening(size: u32) -> Answer
         ensures { λ r. ⌜ r ≡ Opening·opening accounts size ⌝ }
     {
-        let opened = Product::opening(size);
-        let fixing = opened.fixing;
-        let figures = opened.figures;
-        Answer {
-            code: opened.code,
-            fixing,
-            book: Book {
-                figures,
-                opening: [0; ACCOUNTS],
-                position: [0; ACCOUNTS],
-                cost: [0; ACCOUNTS],
-                volume: [0; ACCOUNTS],
-                cash: [0; ACCOUNTS],
-            },
-        }
+        Answer::of(
+            Product::opening(size),
+            [0; ACCOUNTS],
+            [0; ACCOUNTS],
+            [0; ACCOUNTS],
+            [0; ACCOUNTS],
+            [0; ACCOUNTS],
+        )
     }
 
     pub fn is_within_limits(self) -> bool
@@ -91,14 +115,7 @@ impl Book {
         let mut cost = self.cost;
         let mut volume = self.volume;
         let mut cash = self.cash;
-        if !limits_hold(self.figures, &opening, &position, &cost, &volume, &cash) {
-            return Answer {
-                code: 2,
-                fixing: Fixing::none(),
-                book: self,
-            };
-        }
-        let outcome = step_on(
+        let outcome = tested_step(
             self.figures,
             &mut opening,
             &mut position,
@@ -107,20 +124,7 @@ impl Book {
             &mut cash,
             call,
         );
-        let after = outcome.figures;
-        let fixing = outcome.fixing;
-        Answer {
-            code: outcome.code,
-            fixing,
-            book: Book {
-                figures: after,
-                opening,
-                position,
-                cost,
-                volume,
-                cash,
-            },
-        }
+        Answer::of(outcome, opening, position, cost, volume, cash)
     }
 
     pub fn quote(self, bid: u32, offer: u32) -> Answer

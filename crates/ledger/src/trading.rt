@@ -119,11 +119,11 @@ pub fn trade_on(
 {
     let code = trade_code(figures, position, volume, t);
     if code != 0 {
-        return Outcome::unchanged(figures, code);
+        return Outcome::numbered(figures, code);
     }
     let quantity = t.quantity as u64;
     exchange(position, t, quantity);
     count(volume, t);
     exchange(cost, t, quantity * t.price as u64);
-    Outcome::changed(figures.traded(t))
+    figures.traded(t)
 }

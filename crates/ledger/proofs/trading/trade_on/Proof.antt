@@ -29,15 +29,15 @@ product-most c = let f = fields c in omega (arith, f .high, f .quantity)
 trade-code-requires : tie.Need-trade-code-requires
 trade-code-requires c κs = search needs
 
-unchanged-requires : tie.Need-unchanged-requires
-unchanged-requires c κs = search needs
+numbered-requires : tie.Need-numbered-requires
+numbered-requires c κs = search needs
 
 returns : tie.Need-returns
 returns c =
     let t = c .before in
     let a = t .before .before .before .before .args in
     λ opening cash.
-    refused-answer accounts (bookOf (a .figures) opening (a .position .now) (a .cost .now) (a .volume .now) cash) (call.Trade (a .t)) (t .before .trade-code .ensures) (t .if1 .taken) (c .unchanged .ensures)
+    refused-answer accounts (bookOf (a .figures) opening (a .position .now) (a .cost .now) (a .volume .now) cash) (call.Trade (a .t)) (t .before .trade-code .ensures) (t .if1 .taken) (c .numbered .ensures)
 
 cast-quantity : tie.Need-cast-quantity
 cast-quantity c = search needs
@@ -68,24 +68,21 @@ traded-requires c κs =
     let p = e .before .before .before .before .pre in
     record { contracts = omega (arith, p .contracts, fields e .quantity); gross = omega (arith, p .gross, product-most e) }
 
-changed-requires : tie.Need-changed-requires
-changed-requires c κs = search needs
-
 returns-2 : tie.Need-returns-2
 unfolding effect fixingOf
 returns-2 c =
-    let e = c .before .before .before .before .before .before .before .before .before .before in
+    let e = c .before .before .before .before .before .before .before .before .before in
     let a = e .before .before .before .before .args in
     λ opening cash.
     accepted-answer accounts (bookOf (a .figures) opening (a .position .now) (a .cost .now) (a .volume .now) cash) (call.Trade (a .t)) (e .before .trade-code .ensures) (e .if1 .left)
-    (rw (c .changed .ensures, c .before .traded .ensures, c .before .before .exchange2 .ensures, c .before .before .before .before .before .count .ensures, c .before .before .before .before .before .before .before .exchange .ensures))
+    (rw (c .traded .ensures, c .before .exchange2 .ensures, c .before .before .before .before .count .ensures, c .before .before .before .before .before .before .exchange .ensures))
 
 pub trade-on-spec : {M : Type 1} → statement M
 trade-on-spec =
     tie.close
     (tie.spec
     trade-code-requires
-    unchanged-requires
+    numbered-requires
     returns
     cast-quantity
     exchange-requires
@@ -94,5 +91,4 @@ trade-on-spec =
     mul-exchange
     exchange-requires-2
     traded-requires
-    changed-requires
     returns-2)
