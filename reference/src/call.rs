@@ -11,10 +11,6 @@ pub struct Trade {
     pub price: u32,
 }
 
-pub const SIMPLE: u8 = 0;
-pub const SPREAD: u8 = 1;
-pub const BLOCK: u8 = 2;
-
 impl Trade {
     pub fn is_with_oneself(self) -> bool {
         self.buyer == self.seller

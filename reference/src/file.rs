@@ -2,6 +2,7 @@
 
 use crate::call::{Call, Market, Trade};
 use crate::rules::{Rules, Wrong};
+use dayformat::{body_length as body_length_of, tag, HEADER};
 
 #[derive(Clone, Copy, Debug, PartialEq, Eq)]
 pub enum Record {
@@ -10,8 +11,6 @@ pub enum Record {
     Unknown,
     CutOff,
 }
-
-const HEADER: usize = 3;
 
 pub fn records(bytes: &[u8], rules: Rules) -> Vec<Record> {
     let mut records = Vec::new();
@@ -55,33 +54,25 @@ fn first_record(bytes: &[u8], rules: Rules) -> (Record, usize) {
     (record, end)
 }
 
-fn body_length_of(tag: u8) -> Option<usize> {
-    match tag {
-        1 => Some(11),
-        2 => Some(8),
-        3 | 6 => Some(4),
-        4 | 5 | 7 => Some(0),
-        _ => None,
-    }
-}
-
+/// The call of a known tag and a body of its length. The fields are read here and not beside their
+/// writer, so that each is written from document 01 and they check each other.
 fn call(tag: u8, body: &[u8]) -> Call {
     match tag {
-        1 => Call::Trade(Trade {
+        tag::TRADE => Call::Trade(Trade {
             buyer: body[0],
             seller: body[1],
             kind: body[2],
             quantity: number(&body[3..7]),
             price: number(&body[7..11]),
         }),
-        2 => Call::Quote(Market {
+        tag::QUOTE => Call::Quote(Market {
             bid: number(&body[0..4]),
             offer: number(&body[4..8]),
         }),
-        3 => Call::MinuteEnd(number(body)),
-        4 => Call::Halt,
-        5 => Call::Resume,
-        6 => Call::Fix(number(body)),
+        tag::MINUTE_END => Call::MinuteEnd(number(body)),
+        tag::HALT => Call::Halt,
+        tag::RESUME => Call::Resume,
+        tag::FIX => Call::Fix(number(body)),
         _ => Call::Close,
     }
 }

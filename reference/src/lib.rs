@@ -15,11 +15,11 @@ pub mod refusal;
 pub mod rules;
 pub mod settlement;
 pub mod terms;
-pub mod writer;
 
+use dayformat::BENCH_LIMIT;
 use play::play;
 use rules::{Rules, Wrong};
-use terms::{ACCOUNTS, BENCH_INPUT_LIMIT};
+use terms::ACCOUNTS;
 
 /// Positions and cash of all accounts.
 pub type Lists = ([i64; ACCOUNTS], [i64; ACCOUNTS]);
@@ -30,7 +30,7 @@ pub fn bench(input: &[u8]) -> String {
 }
 
 pub fn bench_under(rules: Rules, input: &[u8]) -> String {
-    let limit = BENCH_INPUT_LIMIT + usize::from(rules.breaks(Wrong::InputLimitWithoutSize));
+    let limit = BENCH_LIMIT + usize::from(rules.breaks(Wrong::InputLimitWithoutSize));
     let (size, records) = size_and_records(&input[..input.len().min(limit)]);
     let mut text = printout::run_lines(size, records, rules).join("\n");
     text.push('\n');

@@ -1,10 +1,11 @@
 //! Which minutes of a day are valid, and the basis of each.
 
-use crate::call::{Call, Market, SIMPLE};
+use crate::call::{Call, Market};
 use crate::fraction::Fraction;
 use crate::history::{Day, History};
 use crate::rules::{Rules, Wrong};
 use crate::terms::{NANO, SPREAD_FACTOR};
+use dayformat::kind::SIMPLE;
 use std::borrow::Cow;
 
 /// What a minute takes over from the calls before it.

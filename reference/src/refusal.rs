@@ -1,7 +1,7 @@
 //! The refusals that a call can meet, in checking order.
 
 use crate::accounts::{position, volume};
-use crate::call::{Call, Market, Trade, BLOCK, SIMPLE, SPREAD};
+use crate::call::{Call, Market, Trade};
 use crate::history::History;
 use crate::rules::{Rules, Wrong};
 use crate::settlement::settlement_price;
@@ -9,6 +9,7 @@ use crate::terms::{
     CLOSED_DAYS, LARGEST_QUANTITY, MINUTES, POSITION_LIMIT, PRICES, SMALLEST_BLOCK, TICK,
     VOLUME_LIMIT,
 };
+use dayformat::kind::{BLOCK, SIMPLE, SPREAD};
 
 pub const FILE: u8 = 1;
 pub const DAY: u8 = 3;

@@ -1,11 +1,12 @@
 //! A day's settlement price, rate and amount.
 
-use crate::call::{Call, Trade, BLOCK, SIMPLE, SPREAD};
+use crate::call::{Call, Trade};
 use crate::fraction::Fraction;
 use crate::history::{Day, History};
 use crate::minutes::{bases, parts_of_nano};
 use crate::rules::{Rules, Wrong};
 use crate::terms::{AMOUNT_DIVISOR, CLAMP, MINUTES, PRICES, TICK};
+use dayformat::kind::{BLOCK, SIMPLE, SPREAD};
 
 #[derive(Clone, Copy, Debug, PartialEq, Eq)]
 pub struct Settlement {

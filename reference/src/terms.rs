@@ -27,8 +27,6 @@ pub const AMOUNT_DIVISOR: i128 = 100_000_000_000;
 /// Hundredths of a cent in one cent.
 pub const CASH_PER_CENT: i128 = 100;
 
-pub const BENCH_INPUT_LIMIT: usize = 65_536;
-
 pub fn size_is_known(size: u8) -> bool {
     size == 1 || size == 10
 }
