@@ -71,6 +71,7 @@ impl Day {
 pub struct AccountTrade {
     /// The day counted from 0.
     pub day: usize,
+    /// Whether it came between fix and close.
     pub after_fix: bool,
     pub trade: Trade,
 }

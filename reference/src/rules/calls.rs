@@ -139,7 +139,7 @@ pub trait CallRules: Sync {
         Fraction::whole(self.half_even(Fraction::new((futures_price - index) * NANO, index)))
     }
 
-    /// "S adds i × basis for the i-th of them."
+    /// "S adds i × basis for the i-th of them"; "weights count valid minutes, not clock minutes".
     fn weight(&self, i: usize, _minute: &ValidMinute) -> i128 {
         i as i128
     }

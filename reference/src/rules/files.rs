@@ -5,7 +5,8 @@ use crate::Lists;
 use dayformat::BENCH_LIMIT;
 
 pub trait FileRules: Sync {
-    /// Whether what is left of a file, no whole record, is "a file record cut off by the end".
+    /// "A file record is cut off by the end of the file": whether one is, by the bytes left after the
+    /// last whole one.
     fn is_cut_off(&self, rest: &[u8]) -> bool {
         !rest.is_empty()
     }

@@ -90,9 +90,9 @@ pub struct CloseKeepsMarket;
 
 impl CallRules for CloseKeepsMarket {
     fn start_of_day(&self, earlier: &[Day]) -> Start {
-        let calls: Vec<Call> = earlier.iter().flat_map(|day| &day.calls).copied().collect();
+        let kept = |market, day: &Day| self.next_minute_market(market, &day.calls);
         Start {
-            market: self.next_minute_market(None, &calls),
+            market: earlier.iter().fold(None, kept),
             ..RightLedger.start_of_day(earlier)
         }
     }
