@@ -1,4 +1,4 @@
-/* The run of a funding book over a file of records, in target/staticlib/libhost.a.
+/* The run of a funding book over a file of records, in target/staticlib/libfunding.a.
    docs/FORMAT.md lays down the records and what they do. */
 #ifndef FUNDING_H
 #define FUNDING_H

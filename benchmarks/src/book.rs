@@ -1,10 +1,11 @@
 //! A book that its calls change in place.
 
 use crate::settlement::{amount, average, basis, rate};
+use dayformat::kind::{BLOCK, SIMPLE, SPREAD};
 use reference::refusal::{CROSSED, DAY, FIELD, HALT, NO_PRICE, POSITION, VOLUME};
 
 pub const ACCOUNTS: usize = 256;
-const DAY_LENGTH: u32 = 1_320;
+pub const DAY_LENGTH: u32 = 1_320;
 const MOST_DAYS: u32 = 2_600;
 const LEAST_PRICE: u32 = 5_000;
 const LARGEST_PRICE: u32 = 50_000_000;
@@ -102,9 +103,9 @@ impl Trade {
         (1..=MOST_QUANTITY).contains(&self.quantity)
             && is_price(self.price)
             && match self.kind {
-                0 => self.price.is_multiple_of(TICK),
-                1 => true,
-                2 => LEAST_BLOCK <= self.quantity,
+                SIMPLE => self.price.is_multiple_of(TICK),
+                SPREAD => true,
+                BLOCK => LEAST_BLOCK <= self.quantity,
                 _ => false,
             }
     }
@@ -170,7 +171,7 @@ impl Book {
         self.volume[buyer] += trade.quantity;
         self.volume[seller] += trade.quantity;
         self.day.last = trade.price;
-        if trade.kind == 0 && self.day.minutes == DAY_LENGTH - 1 {
+        if trade.kind == SIMPLE && self.day.minutes == DAY_LENGTH - 1 {
             self.day.contracts += trade.quantity;
             self.day.gross += paid as u64;
         }

@@ -1,10 +1,10 @@
 //! The files that are timed. Every record of them is accepted.
 
+use crate::book::DAY_LENGTH;
+use dayformat::{kind, Writer};
 use differential::random::Random;
-use reference::writer::Writer;
 
 const SIZE: u8 = 10;
-const MINUTES: u32 = 1_320;
 const LEVEL: u32 = 8_400_000;
 
 pub struct Input {
@@ -63,7 +63,7 @@ impl File {
         let seller = (buyer + 1 + self.random.below(accounts - 1)) % accounts;
         let (quantity, price) = (self.random.between(1, 20), self.near() / 10 * 10);
         let accounts = (buyer as u8, seller as u8);
-        self.writer.trade(accounts, 0, quantity, price);
+        self.writer.trade(accounts, kind::SIMPLE, quantity, price);
         self.records += 1;
     }
 }
@@ -97,7 +97,7 @@ fn days(name: &'static str, count: u32, minute: impl Fn(&mut File, u32)) -> Inpu
         records: 0,
     };
     for _ in 0..count {
-        for number in 0..MINUTES {
+        for number in 0..DAY_LENGTH {
             minute(&mut file, number);
         }
         let set_price = file.near();

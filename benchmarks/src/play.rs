@@ -1,6 +1,7 @@
 //! Reads a file's records and plays them.
 
 use crate::book::{Answer, Book, Market, Trade, ACCOUNTS};
+use dayformat::{body_length, header, length, tag};
 use reference::refusal::FILE;
 
 /// The same run as the C library's, on the same lists.
@@ -45,8 +46,11 @@ fn play(book: &mut Book, file: &[u8], mut answered: impl FnMut(Option<Answer>)) 
 #[inline(always)]
 fn call<'a>(book: &mut Book, file: &'a [u8]) -> Option<(Answer, &'a [u8])> {
     Some(match *file {
-        [3, 0, 4, a, b, c, d, ref next @ ..] => (book.minute_end(number([a, b, c, d])), next),
-        [1, 0, 11, buyer, seller, kind, a, b, c, d, e, f, g, h, ref next @ ..] => {
+        [tag::MINUTE_END, 0, length::MINUTE_END, a, b, c, d, ref next @ ..] => {
+            (book.minute_end(number([a, b, c, d])), next)
+        }
+        [tag::TRADE, 0, length::TRADE, buyer, seller, kind, a, b, c, d, e, f, g, h, ref next @ ..] =>
+        {
             let trade = Trade {
                 buyer,
                 seller,
@@ -56,14 +60,16 @@ fn call<'a>(book: &mut Book, file: &'a [u8]) -> Option<(Answer, &'a [u8])> {
             };
             (book.trade(trade), next)
         }
-        [2, 0, 8, a, b, c, d, e, f, g, h, ref next @ ..] => {
+        [tag::QUOTE, 0, length::QUOTE, a, b, c, d, e, f, g, h, ref next @ ..] => {
             let (bid, offer) = (number([a, b, c, d]), number([e, f, g, h]));
             (book.quote(Market { bid, offer }), next)
         }
-        [4, 0, 0, ref next @ ..] => (book.halt(), next),
-        [5, 0, 0, ref next @ ..] => (book.resume(), next),
-        [6, 0, 4, a, b, c, d, ref next @ ..] => (book.fix(number([a, b, c, d])), next),
-        [7, 0, 0, ref next @ ..] => (book.close(), next),
+        [tag::HALT, 0, length::HALT, ref next @ ..] => (book.halt(), next),
+        [tag::RESUME, 0, length::RESUME, ref next @ ..] => (book.resume(), next),
+        [tag::FIX, 0, length::FIX, a, b, c, d, ref next @ ..] => {
+            (book.fix(number([a, b, c, d])), next)
+        }
+        [tag::CLOSE, 0, length::CLOSE, ref next @ ..] => (book.close(), next),
         _ => return None,
     })
 }
@@ -75,13 +81,12 @@ fn number(bytes: [u8; 4]) -> u32 {
 /// The answer to a record that is no call, and what follows it.
 fn passed_over(file: &[u8]) -> (Option<Answer>, &[u8]) {
     let cut_off = (Some(Err(FILE)), &[][..]);
-    let Some((&[tag, high, low], after)) = file.split_first_chunk() else {
+    let Some((tag, length, after)) = header(file) else {
         return cut_off;
     };
-    let length = usize::from(u16::from_be_bytes([high, low]));
-    match (tag, after.get(length..)) {
-        (_, None) => cut_off,
-        (1..=7, Some(next)) => (Some(Err(FILE)), next),
-        (_, Some(next)) => (None, next),
+    match after.get(length..) {
+        None => cut_off,
+        Some(next) if body_length(tag).is_some() => (Some(Err(FILE)), next),
+        Some(next) => (None, next),
     }
 }

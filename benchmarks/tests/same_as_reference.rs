@@ -9,7 +9,7 @@ use reference::{c_run, size_and_records};
 const UNTOUCHED: i64 = i64::MIN;
 
 fn reference_answers(size: u8, file: &[u8]) -> Vec<Option<Result<(), u8>>> {
-    let played = play(size, file, Rules::right());
+    let played = play(size, file, Rules::RIGHT);
     let answers = played.map_or(Vec::new(), |played| played.answers);
     let as_timed = |answer: Answer| match answer {
         Answer::Accepted(_) => Some(Ok(())),

@@ -1,43 +1,29 @@
 //! The seven calls of a trade date.
 
-use crate::rules::{Rules, Wrong};
+pub type Account = u8;
 
 #[derive(Clone, Copy, Debug, PartialEq, Eq)]
 pub struct Trade {
-    pub buyer: u8,
-    pub seller: u8,
+    pub buyer: Account,
+    pub seller: Account,
     pub kind: u8,
     pub quantity: u32,
     pub price: u32,
 }
-
-pub const SIMPLE: u8 = 0;
-pub const SPREAD: u8 = 1;
-pub const BLOCK: u8 = 2;
 
 impl Trade {
     pub fn is_with_oneself(self) -> bool {
         self.buyer == self.seller
     }
 
-    /// Plus for the buyer, minus for the seller, both for a trade with oneself.
-    pub fn signed_quantity(self, account: u8, rules: Rules) -> i128 {
-        let quantity = i128::from(self.quantity);
-        if self.is_with_oneself() && rules.breaks(Wrong::SelfTradeReadBeforeWrite) {
-            return -quantity;
-        }
-        let bought = if self.buyer == account { quantity } else { 0 };
-        let sold = if self.seller == account { quantity } else { 0 };
-        bought - sold
+    /// The contracts that the account buys.
+    pub fn bought(self, account: Account) -> i128 {
+        i128::from(self.buyer == account) * i128::from(self.quantity)
     }
 
-    /// Contracts that the account buys plus those that it sells.
-    pub fn contracts(self, account: u8, rules: Rules) -> i128 {
-        let sides = i128::from(self.buyer == account) + i128::from(self.seller == account);
-        let once = rules.breaks(Wrong::SelfTradeReadBeforeWrite)
-            || rules.breaks(Wrong::SelfTradeOnceInVolume);
-        let counted = if once { sides.min(1) } else { sides };
-        counted * i128::from(self.quantity)
+    /// The contracts that the account sells.
+    pub fn sold(self, account: Account) -> i128 {
+        i128::from(self.seller == account) * i128::from(self.quantity)
     }
 }
 
@@ -53,6 +39,16 @@ impl Market {
 
     pub fn is_two_sided(self) -> bool {
         self.bid != 0 && self.offer != 0
+    }
+
+    /// Bid plus offer.
+    pub fn sum(self) -> i128 {
+        i128::from(self.bid) + i128::from(self.offer)
+    }
+
+    /// Offer minus bid.
+    pub fn spread(self) -> i128 {
+        i128::from(self.offer) - i128::from(self.bid)
     }
 }
 

@@ -1,8 +1,8 @@
 //! The accepted calls since the opening, as lists. Nothing here is a running sum.
 
 use crate::call::{Call, Trade};
-use crate::rules::{Rules, Wrong};
 use crate::terms::ACCOUNTS;
+use std::ops::Range;
 
 /// The accepted calls of one day, in order.
 #[derive(Clone, Debug, Default)]
@@ -26,6 +26,10 @@ impl Day {
         }
     }
 
+    pub fn ended_minutes(&self) -> usize {
+        self.minute_ends.len()
+    }
+
     pub fn is_fixed(&self) -> bool {
         self.fix.is_some()
     }
@@ -47,8 +51,11 @@ impl Day {
 
     /// The calls between the minute end before a minute (counted from 1) and its own.
     pub fn calls_of_minute(&self, minute: usize) -> &[Call] {
-        let end = self.minute_ends[minute - 1];
-        &self.calls[self.place_after_minute(minute - 1)..end]
+        &self.calls[self.places_of_minute(minute)]
+    }
+
+    pub fn places_of_minute(&self, minute: usize) -> Range<usize> {
+        self.place_after_minute(minute - 1)..self.minute_ends[minute - 1]
     }
 
     pub fn place_after_minute(&self, minute: usize) -> usize {
@@ -64,8 +71,17 @@ impl Day {
 pub struct AccountTrade {
     /// The day counted from 0.
     pub day: usize,
+    /// Whether it came between fix and close.
     pub after_fix: bool,
     pub trade: Trade,
+}
+
+/// A halt or a resume, with its place among the calls of its day.
+#[derive(Clone, Copy, Debug, PartialEq, Eq)]
+pub struct HaltOrResume {
+    pub day: usize,
+    pub place: usize,
+    pub is_halt: bool,
 }
 
 #[derive(Clone, Debug)]
@@ -75,8 +91,8 @@ pub struct History {
     pub days: Vec<Day>,
     /// Each account's trades, in order.
     pub trades: Vec<Vec<AccountTrade>>,
-    /// Halts and resumes, each with its day.
-    pub halts: Vec<(usize, Call)>,
+    /// Halts and resumes of all days, in order.
+    pub halts: Vec<HaltOrResume>,
 }
 
 impl History {
@@ -103,7 +119,11 @@ impl History {
         self.days[day].add(call);
         match call {
             Call::Trade(trade) => self.add_trade(trade),
-            Call::Halt | Call::Resume => self.halts.push((day, call)),
+            Call::Halt | Call::Resume => self.halts.push(HaltOrResume {
+                day,
+                place: self.days[day].calls.len() - 1,
+                is_halt: call == Call::Halt,
+            }),
             Call::Close => self.days.push(Day::default()),
             Call::Quote(_) | Call::MinuteEnd(_) | Call::Fix(_) => {}
         }
@@ -121,21 +141,10 @@ impl History {
         }
     }
 
-    pub fn is_halted(&self, rules: Rules) -> bool {
-        let last = self.halts.last();
-        is_standing_halt(last, self.closed_days(), rules)
-    }
-
-    pub fn is_halted_at_start(&self, day: usize, rules: Rules) -> bool {
-        let earlier = self.halts.iter().rev().find(|(number, _)| *number < day);
-        is_standing_halt(earlier, day, rules)
-    }
-}
-
-fn is_standing_halt(last: Option<&(usize, Call)>, day: usize, rules: Rules) -> bool {
-    match last {
-        Some((of_day, Call::Halt)) => !(rules.breaks(Wrong::CloseDropsHalt) && *of_day < day),
-        _ => false,
+    /// The halts and resumes before a place among the calls of a day.
+    pub fn halts_before(&self, day: usize, place: usize) -> &[HaltOrResume] {
+        let is_before = |halt: &HaltOrResume| (halt.day, halt.place) < (day, place);
+        &self.halts[..self.halts.partition_point(is_before)]
     }
 }
 
@@ -162,21 +171,28 @@ mod tests {
                 Vec::from_iter(day.fix),
                 places(|call| matches!(call, Call::Fix(_)))
             );
-            let halts: Vec<Call> = day.calls.iter().copied().filter(is_halt).collect();
-            let listed = history.halts.iter().filter(|(of_day, _)| *of_day == number);
-            assert_eq!(halts, listed.map(|(_, call)| *call).collect::<Vec<Call>>());
+            let listed = |is_halt| -> Vec<usize> {
+                let of_day = history.halts.iter().filter(|halt| halt.day == number);
+                of_day
+                    .filter(|halt| halt.is_halt == is_halt)
+                    .map(|halt| halt.place)
+                    .collect()
+            };
+            assert_eq!(listed(true), places(|call| *call == Call::Halt));
+            assert_eq!(listed(false), places(|call| *call == Call::Resume));
         }
         for account in 0..=u8::MAX {
             let walked = trades_by_walking(&history, account);
             assert_eq!(history.trades[usize::from(account)], walked);
         }
-        assert!(history.is_halted(Rules::right()));
-        assert!(history.is_halted_at_start(1, Rules::right()));
-        assert!(!history.is_halted_at_start(0, Rules::right()));
     }
 
-    fn is_halt(call: &Call) -> bool {
-        matches!(call, Call::Halt | Call::Resume)
+    #[test]
+    fn halts_before_a_place() {
+        let history = sample();
+        let before = |day, place| history.halts_before(day, place).len();
+        assert_eq!([before(0, 7), before(0, 8), before(0, 10)], [0, 1, 3]);
+        assert_eq!([before(1, 0), before(1, 8), before(1, 9)], [3, 4, 5]);
     }
 
     fn trades_by_walking(history: &History, account: u8) -> Vec<AccountTrade> {

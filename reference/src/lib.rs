@@ -11,27 +11,27 @@ pub mod history;
 pub mod minutes;
 pub mod play;
 pub mod printout;
+pub mod program;
 pub mod refusal;
 pub mod rules;
 pub mod settlement;
 pub mod terms;
-pub mod writer;
 
 use play::play;
-use rules::{Rules, Wrong};
-use terms::{ACCOUNTS, BENCH_INPUT_LIMIT};
+use rules::Rules;
+use terms::ACCOUNTS;
 
 /// Positions and cash of all accounts.
 pub type Lists = ([i64; ACCOUNTS], [i64; ACCOUNTS]);
 
 /// What `funding-bench` prints for this standard input.
 pub fn bench(input: &[u8]) -> String {
-    bench_under(Rules::right(), input)
+    bench_under(Rules::RIGHT, input)
 }
 
 pub fn bench_under(rules: Rules, input: &[u8]) -> String {
-    let limit = BENCH_INPUT_LIMIT + usize::from(rules.breaks(Wrong::InputLimitWithoutSize));
-    let (size, records) = size_and_records(&input[..input.len().min(limit)]);
+    let counted = input.len().min(rules.files.bench_limit());
+    let (size, records) = size_and_records(&input[..counted]);
     let mut text = printout::run_lines(size, records, rules).join("\n");
     text.push('\n');
     text
@@ -46,21 +46,20 @@ pub fn size_and_records(input: &[u8]) -> (u8, &[u8]) {
 
 /// The run offered to C: accepted records, and the lists unless they stay untouched.
 pub fn c_run(size: u8, file: &[u8]) -> (u64, Option<Lists>) {
-    c_run_under(Rules::right(), size, file)
+    c_run_under(Rules::RIGHT, size, file)
 }
 
 pub fn c_run_under(rules: Rules, size: u8, file: &[u8]) -> (u64, Option<Lists>) {
-    match play(size, file, rules) {
-        None => (0, None),
-        Some(played) => {
-            let accepted = played.accepted();
-            let untouched = accepted == 0 && rules.breaks(Wrong::NothingAcceptedUntouched);
-            (accepted, Some(played.report()).filter(|_| !untouched))
-        }
-    }
+    play(size, file, rules).map_or((0, None), |played| {
+        (played.accepted(), rules.files.lists(&played))
+    })
 }
 
 /// What a program that links the C library prints: size byte and file on standard input.
+pub fn library_printout(input: &[u8]) -> String {
+    library_printout_under(Rules::RIGHT, input)
+}
+
 pub fn library_printout_under(rules: Rules, input: &[u8]) -> String {
     let (size, file) = size_and_records(input);
     let (accepted, lists) = c_run_under(rules, size, file);

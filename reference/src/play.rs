@@ -1,13 +1,13 @@
 //! Plays a file's records against the history of accepted calls.
 
-use crate::accounts::{position, Cash};
-use crate::call::Call;
+use crate::accounts::{position, ClosedDays};
+use crate::call::{Account, Call};
 use crate::file::{records, Record};
 use crate::history::History;
-use crate::refusal::{refusal, FILE, POSITION, VOLUME};
-use crate::rules::{Rules, Wrong};
+use crate::refusal::{refusal, FILE};
+use crate::rules::Rules;
 use crate::settlement::{settlement, Settlement};
-use crate::terms::{size_is_known, ACCOUNTS};
+use crate::terms::ACCOUNTS;
 use crate::Lists;
 
 /// What became of one record.
@@ -27,11 +27,11 @@ pub struct Played {
 
 /// Plays a file on a fresh book, none when the size is refused.
 pub fn play(size: u8, file: &[u8], rules: Rules) -> Option<Played> {
-    if !size_is_known(size) {
+    if !rules.calls.is_size(size) {
         return None;
     }
     let mut history = History::new(size);
-    let answers = records(file, rules)
+    let answers = records(file, rules.files)
         .into_iter()
         .map(|record| answer(&mut history, record, rules))
         .collect();
@@ -48,51 +48,37 @@ fn answer(history: &mut History, record: Record, rules: Rules) -> Answer {
         Record::WrongLength | Record::CutOff => return Answer::Refused(FILE),
         Record::Call(call) => call,
     };
-    match refusal(history, call, rules) {
-        None => {
-            history.add(call);
-            Answer::Accepted(call)
-        }
-        Some(number) => {
-            let past_limit = number == VOLUME || number == POSITION;
-            if past_limit && rules.breaks(Wrong::RefusedTradeTakesEffect) {
-                history.add(call);
-            }
-            Answer::Refused(number)
-        }
+    let refusal = refusal(history, call, rules);
+    if rules.refusals.changes_book(refusal) {
+        history.add(call);
     }
+    refusal.map_or(Answer::Accepted(call), Answer::Refused)
 }
 
 impl Played {
     pub fn accepted(&self) -> u64 {
-        let counts = |answer: &&Answer| match answer {
-            Answer::Accepted(_) => true,
-            Answer::Unknown => self.rules.breaks(Wrong::UnknownAccepted),
-            Answer::Refused(_) => false,
-        };
-        self.answers.iter().filter(counts).count() as u64
+        let is_accepted = |answer: &&Answer| self.rules.files.is_accepted(**answer);
+        self.answers.iter().filter(is_accepted).count() as u64
     }
 
     /// The settlements of the fixed days, in order.
     pub fn settlements(&self) -> Vec<Settlement> {
         (0..self.history.days.len())
-            .filter_map(|day| settlement(&self.history, day, self.rules))
+            .filter_map(|day| settlement(&self.history, day, self.rules.calls))
             .collect()
     }
 
     /// Positions and cash where the run ended.
     pub fn report(&self) -> Lists {
-        let closed = &self.settlements()[..self.history.closed_days()];
-        let cash = Cash::after(self.history.size, closed, self.rules);
-        let days = self.history.days.len();
-        let positions = |account| position(&self.history, account, days, self.rules);
+        let (history, rules) = (&self.history, self.rules.calls);
+        let closed = ClosedDays::new(&self.settlements()[..history.closed_days()]);
         (
-            by_account(positions),
-            by_account(|account| cash.of(&self.history, account)),
+            by_account(|account| position(history, account, history.days.len(), rules)),
+            by_account(|account| closed.cash(history, account, rules)),
         )
     }
 }
 
-fn by_account(figure: impl Fn(u8) -> i128) -> [i64; ACCOUNTS] {
-    std::array::from_fn(|account| i64::try_from(figure(account as u8)).expect("fits 64 bits"))
+fn by_account(figure: impl Fn(Account) -> i128) -> [i64; ACCOUNTS] {
+    std::array::from_fn(|account| i64::try_from(figure(account as Account)).expect("fits 64 bits"))
 }

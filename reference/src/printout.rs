@@ -1,20 +1,28 @@
 //! The lines that the bench program prints.
 
-use crate::accounts::{position, Cash};
-use crate::call::Call;
+use crate::accounts::{position, ClosedDays};
+use crate::call::{Account, Call};
 use crate::play::{play, Answer, Played};
-use crate::rules::{Rules, Wrong};
+use crate::rules::Rules;
 use crate::settlement::Settlement;
+use crate::terms::ACCOUNTS;
 
-/// The lines of a run without the `end` that the bench adds.
-pub fn lines(played: &Played) -> Vec<String> {
+/// Every line of a run, `end` included.
+pub fn run_lines(size: u8, file: &[u8], rules: Rules) -> Vec<String> {
+    let mut printed = match play(size, file, rules) {
+        None => vec!["refused 5 record 0".to_string()],
+        Some(played) => lines(&played),
+    };
+    printed.push("end".to_string());
+    printed
+}
+
+fn lines(played: &Played) -> Vec<String> {
     let settlements = played.settlements();
     let (mut fixes, mut closes, mut place) = (0, 0, 0);
     let mut lines = Vec::new();
     for answer in &played.answers {
-        let uncounted =
-            *answer == Answer::Unknown && played.rules.breaks(Wrong::UnknownNotInPlaces);
-        place += usize::from(!uncounted);
+        place += usize::from(played.rules.files.counts_in_places(*answer));
         match answer {
             Answer::Refused(number) => lines.push(format!("refused {number} record {place}")),
             Answer::Accepted(Call::Fix(_)) => {
@@ -39,31 +47,16 @@ fn fix_line(day: usize, settlement: Settlement) -> String {
 }
 
 /// The accounts after the close of the last of the given settlements.
-fn close_lines(played: &Played, closed: &[Settlement]) -> Vec<String> {
-    let history = &played.history;
-    let cash = Cash::after(history.size, closed, played.rules);
-    let both = played.rules.breaks(Wrong::ClosePrintsBothNonzero);
-    let mut lines = Vec::new();
-    for account in 0..=u8::MAX {
-        let net = position(history, account, closed.len(), played.rules);
-        let cash = cash.of(history, account);
-        let shown = match both {
-            true => net != 0 && cash != 0,
-            false => net != 0 || cash != 0,
-        };
-        if shown {
-            lines.push(format!("acct {account} net {net} cash {cash}"));
-        }
-    }
-    lines
-}
-
-/// Every line of a run, `end` included.
-pub fn run_lines(size: u8, file: &[u8], rules: Rules) -> Vec<String> {
-    let mut printed = match play(size, file, rules) {
-        None => vec!["refused 5 record 0".to_string()],
-        Some(played) => lines(&played),
+fn close_lines(played: &Played, settlements: &[Settlement]) -> Vec<String> {
+    let (history, rules) = (&played.history, played.rules);
+    let closed = ClosedDays::new(settlements);
+    let line = |account: Account| {
+        let net = position(history, account, closed.count(), rules.calls);
+        let cash = closed.cash(history, account, rules.calls);
+        let shown = rules.files.close_prints(net, cash);
+        shown.then(|| format!("acct {account} net {net} cash {cash}"))
     };
-    printed.push("end".to_string());
-    printed
+    (0..ACCOUNTS)
+        .filter_map(|account| line(account as Account))
+        .collect()
 }

@@ -1,14 +1,11 @@
-//! The refusals that a call can meet, in checking order.
+//! The refusals that a call can meet.
 
 use crate::accounts::{position, volume};
-use crate::call::{Call, Market, Trade, BLOCK, SIMPLE, SPREAD};
+use crate::call::{Account, Call, Trade};
 use crate::history::History;
-use crate::rules::{Rules, Wrong};
+use crate::rules::Rules;
 use crate::settlement::settlement_price;
-use crate::terms::{
-    CLOSED_DAYS, LARGEST_QUANTITY, MINUTES, POSITION_LIMIT, PRICES, SMALLEST_BLOCK, TICK,
-    VOLUME_LIMIT,
-};
+use dayformat::kind::BLOCK;
 
 pub const FILE: u8 = 1;
 pub const DAY: u8 = 3;
@@ -19,142 +16,145 @@ pub const VOLUME: u8 = 7;
 pub const POSITION: u8 = 8;
 pub const NO_PRICE: u8 = 9;
 
+/// One step of the checking order.
+#[derive(Clone, Copy, Debug, PartialEq, Eq)]
+pub enum Check {
+    Day,
+    Halt,
+    Field,
+    Crossed,
+    BuyerVolume,
+    SellerVolume,
+    BuyerPosition,
+    SellerPosition,
+    NoPrice,
+}
+
+/// 7 is asked of both accounts before 8 of either.
+pub const CHECKING_ORDER: [Check; 9] = [
+    Check::Day,
+    Check::Halt,
+    Check::Field,
+    Check::Crossed,
+    Check::BuyerVolume,
+    Check::SellerVolume,
+    Check::BuyerPosition,
+    Check::SellerPosition,
+    Check::NoPrice,
+];
+
+impl Check {
+    fn number(self) -> u8 {
+        match self {
+            Check::Day => DAY,
+            Check::Halt => HALT,
+            Check::Field => FIELD,
+            Check::Crossed => CROSSED,
+            Check::BuyerVolume | Check::SellerVolume => VOLUME,
+            Check::BuyerPosition | Check::SellerPosition => POSITION,
+            Check::NoPrice => NO_PRICE,
+        }
+    }
+}
+
 /// The first refusal in checking order whose sentence is met.
 pub fn refusal(history: &History, call: Call, rules: Rules) -> Option<u8> {
-    let is_met = |number: &u8| is_met(*number, history, call, rules);
-    checking_order(rules).into_iter().find(is_met)
-}
-
-fn checking_order(rules: Rules) -> [u8; 7] {
-    match rules.wrong() {
-        Some(Wrong::FieldBeforeDay) => [FIELD, DAY, HALT, CROSSED, VOLUME, POSITION, NO_PRICE],
-        Some(Wrong::FieldBeforeHalt) => [DAY, FIELD, HALT, CROSSED, VOLUME, POSITION, NO_PRICE],
-        Some(Wrong::CrossedBeforeField) => [DAY, HALT, CROSSED, FIELD, VOLUME, POSITION, NO_PRICE],
-        Some(Wrong::PositionBeforeVolume) => {
-            [DAY, HALT, FIELD, CROSSED, POSITION, VOLUME, NO_PRICE]
-        }
-        _ => [DAY, HALT, FIELD, CROSSED, VOLUME, POSITION, NO_PRICE],
-    }
-}
-
-fn is_met(number: u8, history: &History, call: Call, rules: Rules) -> bool {
-    match (number, call) {
-        (DAY, _) => day_forbids(history, call, rules),
-        (HALT, _) => halt_forbids(history.is_halted(rules), call, rules),
-        (FIELD, _) => is_outside_field(call, rules),
-        (CROSSED, Call::Quote(market)) => is_crossed(market, rules),
-        (VOLUME, Call::Trade(trade)) => volume_would_pass(history, trade, rules),
-        (POSITION, Call::Trade(trade)) => [trade.buyer, trade.seller]
-            .iter()
-            .any(|account| position_would_pass(history, trade, *account, rules)),
-        (NO_PRICE, Call::Fix(set_price)) => {
-            settlement_price(history, history.closed_days(), set_price, rules).is_none()
-        }
-        _ => false,
-    }
-}
-
-fn day_forbids(history: &History, call: Call, rules: Rules) -> bool {
-    let day_limit = match rules.wrong() {
-        Some(Wrong::DayLimitOneLess) => CLOSED_DAYS - 1,
-        Some(Wrong::DayLimitOneMore) => CLOSED_DAYS + 1,
-        _ => CLOSED_DAYS,
+    let asked = Asked {
+        history,
+        call,
+        rules,
     };
-    let minute_limit = match rules.breaks(Wrong::MinuteLimitOneMore) {
-        true => MINUTES + 1,
-        false => MINUTES,
-    };
-    let day = history.open_day();
-    let ended = day.minute_ends.len();
-    history.closed_days() >= day_limit
-        || match call {
-            Call::MinuteEnd(_) => ended >= minute_limit || day.is_fixed(),
-            Call::Fix(_) => ended < MINUTES || day.is_fixed(),
-            Call::Close => !day.is_fixed(),
+    let mut order = rules.refusals.checking_order().iter();
+    let first = order.find(|check| asked.meets(**check));
+    first.map(|check| check.number())
+}
+
+/// A call that isn't accepted yet.
+struct Asked<'a> {
+    history: &'a History,
+    call: Call,
+    rules: Rules,
+}
+
+impl Asked<'_> {
+    fn meets(&self, check: Check) -> bool {
+        match (check, &self.call) {
+            (Check::Day, _) => self.day_forbids(),
+            (Check::Halt, _) => self.halt_forbids(),
+            (Check::Field, _) => self.is_outside_field(),
+            (Check::Crossed, Call::Quote(market)) => self.rules.refusals.is_crossed(*market),
+            (Check::BuyerVolume, Call::Trade(trade)) => self.passes_volume(trade, trade.buyer),
+            (Check::SellerVolume, Call::Trade(trade)) => self.passes_volume(trade, trade.seller),
+            (Check::BuyerPosition, Call::Trade(trade)) => self.passes_position(trade, trade.buyer),
+            (Check::SellerPosition, Call::Trade(trade)) => {
+                self.passes_position(trade, trade.seller)
+            }
+            (Check::NoPrice, Call::Fix(set_price)) => self.has_no_price(*set_price),
             _ => false,
         }
-}
-
-fn halt_forbids(halted: bool, call: Call, rules: Rules) -> bool {
-    match call {
-        Call::Trade(_) | Call::Quote(_) | Call::Halt => halted,
-        Call::Resume => !halted,
-        Call::MinuteEnd(_) => halted && rules.breaks(Wrong::MinuteEndRefusedInHalt),
-        Call::Fix(_) | Call::Close => false,
     }
-}
 
-fn is_outside_field(call: Call, rules: Rules) -> bool {
-    let none_or = |value: u32, check: fn(u32, Rules) -> bool| value == 0 || check(value, rules);
-    match call {
-        Call::Trade(trade) => !trade_is_in_field(trade, rules),
-        Call::Quote(market) => {
-            !none_or(market.bid, is_ticked_price) || !none_or(market.offer, is_ticked_price)
+    /// "Any call on a book with 2,600 closed days; a minute end after 1,320 or after a fix; a fix
+    /// before 1,320 or twice; a close without a fix."
+    fn day_forbids(&self) -> bool {
+        let (refusals, day) = (self.rules.refusals, self.history.open_day());
+        let length = self.rules.calls.day_length(day);
+        let forbidden = match self.call {
+            Call::MinuteEnd(_) => refusals.minute_end_is_late(day, length),
+            Call::Fix(_) => day.ended_minutes() < length || day.is_fixed(),
+            Call::Close => !day.is_fixed(),
+            _ => false,
+        };
+        forbidden || self.history.closed_days() >= refusals.most_closed_days()
+    }
+
+    fn halt_forbids(&self) -> bool {
+        let (halts, today) = (&self.history.halts, self.history.closed_days());
+        let halted = self.rules.calls.is_halted(halts, today);
+        self.rules.refusals.halt_forbids(self.call, halted)
+    }
+
+    /// "A nonzero quote side not ticked; an index or set price neither 0 nor a price."
+    fn is_outside_field(&self) -> bool {
+        let calls = self.rules.calls;
+        let is_no_side = |side: u32| side != 0 && !calls.is_ticked_price(side.into());
+        match self.call {
+            Call::Trade(trade) => self.trade_is_outside_field(trade),
+            Call::Quote(market) => is_no_side(market.bid) || is_no_side(market.offer),
+            Call::MinuteEnd(value) | Call::Fix(value) => {
+                value != 0 && !calls.is_price(value.into())
+            }
+            Call::Halt | Call::Resume | Call::Close => false,
         }
-        Call::MinuteEnd(value) | Call::Fix(value) => !none_or(value, is_price),
-        Call::Halt | Call::Resume | Call::Close => false,
     }
-}
 
-fn trade_is_in_field(trade: Trade, rules: Rules) -> bool {
-    let quantity = i128::from(trade.quantity);
-    let (smallest, largest) = quantity_limits(trade.kind, rules);
-    let price_is_in_field = match trade.kind {
-        SIMPLE => is_ticked_price(trade.price, rules),
-        SPREAD if rules.breaks(Wrong::SpreadTradesTicked) => is_ticked_price(trade.price, rules),
-        _ => is_price(trade.price, rules),
-    };
-    trade.kind <= BLOCK && smallest <= quantity && quantity <= largest && price_is_in_field
-}
-
-fn quantity_limits(kind: u8, rules: Rules) -> (i128, i128) {
-    let smallest = match kind {
-        BLOCK if rules.breaks(Wrong::BlockLimitOneMore) => SMALLEST_BLOCK + 1,
-        BLOCK => SMALLEST_BLOCK,
-        _ => 1,
-    };
-    match rules.breaks(Wrong::QuantityLimitOneLess) {
-        true => (smallest, LARGEST_QUANTITY - 1),
-        false => (smallest, LARGEST_QUANTITY),
+    /// "Kind above 2; quantity 0, above 100,000, or below 250 for kind 2; a price no price; a kind 0
+    /// price not ticked."
+    fn trade_is_outside_field(&self, trade: Trade) -> bool {
+        let price = trade.price.into();
+        let priced = match self.rules.refusals.kind_is_ticked(trade.kind) {
+            true => self.rules.calls.is_ticked_price(price),
+            false => self.rules.calls.is_price(price),
+        };
+        let quantities = self.rules.refusals.quantities(trade.kind);
+        trade.kind > BLOCK || !quantities.contains(&trade.quantity) || !priced
     }
-}
 
-fn is_price(value: u32, rules: Rules) -> bool {
-    let value = i128::from(value);
-    let at_limit = value == *PRICES.start() || value == *PRICES.end();
-    PRICES.contains(&value) && !(at_limit && rules.breaks(Wrong::PriceLimitsOneLess))
-}
+    fn passes_volume(&self, trade: &Trade, account: Account) -> bool {
+        let present = volume(self.history, account, self.rules.calls);
+        let after = present + self.rules.calls.contracts(*trade, account);
+        after > self.rules.refusals.volume_limit()
+    }
 
-fn is_ticked_price(value: u32, rules: Rules) -> bool {
-    is_price(value, rules) && i128::from(value) % TICK == 0
-}
+    fn passes_position(&self, trade: &Trade, account: Account) -> bool {
+        let days = self.history.days.len();
+        let present = position(self.history, account, days, self.rules.calls);
+        let after = present + self.rules.calls.signed_quantity(*trade, account);
+        after.abs() > self.rules.refusals.position_limit()
+    }
 
-fn is_crossed(market: Market, rules: Rules) -> bool {
-    let stands = match rules.breaks(Wrong::EqualSidesStand) {
-        true => market.bid <= market.offer,
-        false => market.bid < market.offer,
-    };
-    market.is_two_sided() && !stands
-}
-
-fn volume_would_pass(history: &History, trade: Trade, rules: Rules) -> bool {
-    let limit = match rules.breaks(Wrong::VolumeLimitOneLess) {
-        true => VOLUME_LIMIT - 1,
-        false => VOLUME_LIMIT,
-    };
-    let would_pass =
-        |account| volume(history, account, rules) + trade.contracts(account, rules) > limit;
-    let seller_is_reached = !rules.breaks(Wrong::BuyerBeforeSeller)
-        || !position_would_pass(history, trade, trade.buyer, rules);
-    would_pass(trade.buyer) || seller_is_reached && would_pass(trade.seller)
-}
-
-fn position_would_pass(history: &History, trade: Trade, account: u8, rules: Rules) -> bool {
-    let limit = match rules.breaks(Wrong::PositionLimitOneLess) {
-        true => POSITION_LIMIT - 1,
-        false => POSITION_LIMIT,
-    };
-    let present = position(history, account, history.days.len(), rules);
-    let after = present + trade.signed_quantity(account, rules);
-    after.abs() > limit
+    fn has_no_price(&self, set_price: u32) -> bool {
+        let today = self.history.closed_days();
+        settlement_price(self.history, today, set_price, self.rules.calls).is_none()
+    }
 }

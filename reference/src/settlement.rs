@@ -1,169 +1,99 @@
 //! A day's settlement price, rate and amount.
 
-use crate::call::{Call, Trade, BLOCK, SIMPLE, SPREAD};
+use crate::call::Call;
 use crate::fraction::Fraction;
 use crate::history::{Day, History};
-use crate::minutes::{bases, parts_of_nano};
-use crate::rules::{Rules, Wrong};
-use crate::terms::{AMOUNT_DIVISOR, CLAMP, MINUTES, PRICES, TICK};
+use crate::minutes::{valid_minutes, ValidMinute};
+use crate::rules::CallRules;
 
 #[derive(Clone, Copy, Debug, PartialEq, Eq)]
 pub struct Settlement {
     pub price: i128,
-    /// The clamped rate in nano.
+    /// The clamped rate in whole nano.
     pub rate: i128,
     /// Cents per contract.
     pub amount: i128,
     pub valid_minutes: usize,
 }
 
+/// A way to a settlement price.
+#[derive(Clone, Copy, Debug, PartialEq, Eq)]
+pub enum PriceRule {
+    SetPrice,
+    /// The last minute's trades.
+    Trades,
+    /// The day's index.
+    Index,
+}
+
 /// What the fix of a day gives, none when the day isn't fixed.
-pub fn settlement(history: &History, day: usize, rules: Rules) -> Option<Settlement> {
+pub fn settlement(history: &History, day: usize, rules: &dyn CallRules) -> Option<Settlement> {
     let price = fixed_price(history, day, rules)?;
-    let bases = bases(history, day, rules);
-    let exact_rate = rate(&bases, rules);
-    let rate = clamped(Fraction::whole(exact_rate.half_even(rules)), rules);
-    let rate_for_amount = match rules.breaks(Wrong::RateNotRounded) {
-        true => clamped(exact_rate, rules),
-        false => rate,
-    };
+    let minutes = valid_minutes(history, day, rules);
+    let rate = rules.rate(average_basis(&minutes, rules));
+    let rate = rate.clamped(rules.terms(day).clamp);
     Some(Settlement {
         price,
-        rate: rate.half_even(rules),
-        amount: amount(rate_for_amount, price, history.size, rules),
-        valid_minutes: valid_minutes(&bases, rules),
+        rate: rules.half_even(rate),
+        amount: rules.amount(rate, price, history.size),
+        valid_minutes: minutes.len(),
     })
 }
 
-/// The average of the bases in nano, the i-th valid one with weight i; 0 without any.
-pub fn rate(bases: &[Option<i128>], rules: Rules) -> Fraction {
-    let by_clock = rules.breaks(Wrong::ClockMinuteWeights);
-    let in_count = rules.breaks(Wrong::InvalidMinutesInCount);
-    let (mut weight, mut weighted_sum, mut weights) = (0, 0, 0);
-    for basis in bases {
-        weight += i128::from(basis.is_some() || by_clock || in_count);
-        weighted_sum += weight * basis.unwrap_or(0);
-        if basis.is_some() || in_count {
-            weights += weight;
-        }
+/// The average of the bases by their weights, 0 without any.
+pub fn average_basis(minutes: &[ValidMinute], rules: &dyn CallRules) -> Fraction {
+    let (mut weighted_sum, mut weights) = (Fraction::whole(0), 0);
+    for (i, minute) in (1..).zip(minutes) {
+        let weight = rules.weight(i, minute);
+        weighted_sum = weighted_sum.plus(minute.basis.times(weight));
+        weights += weight;
     }
-    match weights {
-        0 => Fraction::whole(0),
-        _ => Fraction::new(weighted_sum, weights * parts_of_nano(rules)),
-    }
-}
-
-fn valid_minutes(bases: &[Option<i128>], rules: Rules) -> usize {
-    match rules.breaks(Wrong::InvalidMinutesInCount) {
-        true => bases.len(),
-        false => bases.iter().flatten().count(),
-    }
-}
-
-pub fn clamped(rate: Fraction, rules: Rules) -> Fraction {
-    match rules.breaks(Wrong::NoClamp) {
-        true => rate,
-        false => rate.clamped(CLAMP),
-    }
-}
-
-/// Cents per contract: a long position pays when the rate is above zero.
-pub fn amount(clamped_rate: Fraction, price: i128, size: u8, rules: Rules) -> i128 {
-    let sign = match rules.breaks(Wrong::OppositeAmountSign) {
-        true => 1,
-        false => -1,
-    };
-    clamped_rate
-        .times(sign * price * i128::from(size))
-        .divided_by(AMOUNT_DIVISOR)
-        .half_even(rules)
+    // Without a minute the sum is 0.
+    weighted_sum.divided_by(weights.max(1))
 }
 
 /// The settlement price of a fixed day.
-pub fn fixed_price(history: &History, day: usize, rules: Rules) -> Option<i128> {
+fn fixed_price(history: &History, day: usize, rules: &dyn CallRules) -> Option<i128> {
     let set_price = history.days[day].set_price()?;
     settlement_price(history, day, set_price, rules)
 }
 
-/// The settlement price that a fix with this set price gives to a day of 1,320 minutes.
+/// The settlement price that a fix with this set price gives to a day whose minutes have ended.
 pub fn settlement_price(
     history: &History,
     day: usize,
     set_price: u32,
-    rules: Rules,
+    rules: &dyn CallRules,
 ) -> Option<i128> {
-    let set = || Some(i128::from(set_price)).filter(|price| *price != 0);
-    let traded = || traded_price(&history.days[day], rules);
-    let by_index = || index_price(history, day, rules);
-    match rules.breaks(Wrong::TradesBeforeSetPrice) {
-        true => traded().or_else(set).or_else(by_index),
-        false => set().or_else(traded).or_else(by_index),
-    }
-}
-
-/// The average price of the last minute's simple trades by quantity.
-fn traded_price(day: &Day, rules: Rules) -> Option<i128> {
-    let trades = || {
-        final_minute_calls(day, rules)
-            .iter()
-            .filter_map(simple(rules))
-    };
-    let quantity: i128 = trades().map(|trade| i128::from(trade.quantity)).sum();
-    let gross: i128 = trades()
-        .map(|trade| i128::from(trade.quantity) * i128::from(trade.price))
-        .sum();
-    if quantity == 0 {
-        return None;
-    }
-    Some(match rules.breaks(Wrong::SettlementPriceToTick) {
-        true => TICK * Fraction::new(gross, quantity * TICK).half_even(rules),
-        false => Fraction::new(gross, quantity).half_even(rules),
+    rules.price_rules().iter().find_map(|rule| match rule {
+        PriceRule::SetPrice => Some(i128::from(set_price)).filter(|price| *price != 0),
+        PriceRule::Trades => traded_price(&history.days[day], rules),
+        PriceRule::Index => index_price(history, day, rules),
     })
 }
 
-fn final_minute_calls(day: &Day, rules: Rules) -> &[Call] {
-    let end = day.fix.unwrap_or(day.calls.len());
-    match rules.breaks(Wrong::LateTradesInSettlement) {
-        true => &day.calls[day.place_after_minute(MINUTES - 1)..end],
-        false => day.calls_of_minute(MINUTES),
+/// "When n > 0, half-even of gross / n."
+fn traded_price(day: &Day, rules: &dyn CallRules) -> Option<i128> {
+    let (mut n, mut gross) = (0, 0);
+    for call in rules.settlement_calls(day) {
+        match call {
+            Call::Trade(trade) if rules.counts_in_settlement(*trade) => {
+                n += i128::from(trade.quantity);
+                gross += i128::from(trade.quantity) * i128::from(trade.price);
+            }
+            _ => {}
+        }
     }
+    (n > 0).then(|| rules.average_price(gross, n))
 }
 
-/// Picks the trades whose kind counts in the settlement price.
-fn simple(rules: Rules) -> impl Fn(&Call) -> Option<Trade> {
-    move |call| match call {
-        Call::Trade(trade) => Some(*trade).filter(|trade| match trade.kind {
-            SIMPLE => true,
-            SPREAD => rules.breaks(Wrong::SpreadTradesInSettlement),
-            BLOCK => rules.breaks(Wrong::BlocksInSettlement),
-            _ => false,
-        }),
-        _ => None,
-    }
-}
-
-/// The day's index moved by the previous day's distance of price and index.
-fn index_price(history: &History, day: usize, rules: Rules) -> Option<i128> {
-    let index = nonzero_index(history, day, rules)?;
-    if day == 0 {
-        return Some(index).filter(|_| rules.breaks(Wrong::FirstDayAtIndex));
-    }
-    let previous_index = match rules.breaks(Wrong::OlderIndexKept) {
-        true => (0..day)
-            .rev()
-            .find_map(|day| nonzero_index(history, day, rules)),
-        false => nonzero_index(history, day - 1, rules),
-    }?;
-    let previous_price = fixed_price(history, day - 1, rules)?;
-    let price = index + previous_price - previous_index;
-    Some(price).filter(|price| PRICES.contains(price) || rules.breaks(Wrong::IndexRuleUnbounded))
-}
-
-/// The index of the day's last minute, none when there was no sample.
-fn nonzero_index(history: &History, day: usize, rules: Rules) -> Option<i128> {
-    let minute = match rules.breaks(Wrong::IndexOfMinuteBefore) {
-        true => MINUTES - 1,
-        false => MINUTES,
+/// By the indexes of the day and the closed day before, and that day's price.
+fn index_price(history: &History, day: usize, rules: &dyn CallRules) -> Option<i128> {
+    let (earlier, later) = history.days.split_at(day);
+    let previous_price = match earlier.len() {
+        0 => 0,
+        count => fixed_price(history, count - 1, rules)?,
     };
-    Some(i128::from(history.days[day].index(minute))).filter(|index| *index != 0)
+    let (index, previous_index) = (rules.index(&later[0]), rules.previous_index(earlier));
+    rules.index_price(index, previous_price, previous_index)
 }

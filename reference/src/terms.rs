@@ -1,34 +1,20 @@
-//! The fixed numbers of document 01.
-
-use std::ops::RangeInclusive;
+//! Units, and the terms of a product.
 
 pub const ACCOUNTS: usize = 256;
-pub const MINUTES: usize = 1_320;
-pub const CLOSED_DAYS: usize = 2_600;
 
-pub const PRICES: RangeInclusive<i128> = 5_000..=50_000_000;
-pub const TICK: i128 = 10;
-
-pub const LARGEST_QUANTITY: i128 = 100_000;
-pub const SMALLEST_BLOCK: i128 = 250;
-pub const VOLUME_LIMIT: i128 = 2_000_000;
-pub const POSITION_LIMIT: i128 = 1_200_000;
-
-/// The clamp in nano.
-pub const CLAMP: i128 = 2_000_000;
+/// "A rate is in nano (10^-9)."
 pub const NANO: i128 = 1_000_000_000;
-
-/// A spread of 0.005 of the midpoint: 400 × (offer − bid) = bid + offer.
-pub const SPREAD_FACTOR: i128 = 400;
 
 /// Nano × cents × hundredths of a coin in one cent.
 pub const AMOUNT_DIVISOR: i128 = 100_000_000_000;
 
-/// Hundredths of a cent in one cent.
+/// "Cash is in hundredths of a cent."
 pub const CASH_PER_CENT: i128 = 100;
 
-pub const BENCH_INPUT_LIMIT: usize = 65_536;
-
-pub fn size_is_known(size: u8) -> bool {
-    size == 1 || size == 10
+#[derive(Clone, Copy, Debug, PartialEq, Eq)]
+pub struct Terms {
+    /// In nano.
+    pub clamp: i128,
+    /// A spread times this is at most bid plus offer: 400 stands for 0.005 of the midpoint.
+    pub spread_factor: i128,
 }

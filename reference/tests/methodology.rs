@@ -2,22 +2,36 @@
 
 use reference::call::Market;
 use reference::fraction::Fraction;
-use reference::minutes::{basis, futures_price, spread_is_valid};
-use reference::rules::Rules;
-use reference::settlement::{amount, clamped, rate};
+use reference::minutes::{Minute, ValidMinute};
+use reference::rules::{CallRules, RightLedger};
+use reference::settlement::average_basis;
+use reference::terms::Terms;
 
-const RIGHT: fn() -> Rules = Rules::right;
-
-fn rounded_rate(bases: &[Option<i128>]) -> i128 {
-    rate(bases, RIGHT()).half_even(RIGHT())
+fn terms() -> Terms {
+    RightLedger.terms(0)
 }
 
-fn clamped_rate(rate: i128) -> i128 {
-    clamped(Fraction::whole(rate), RIGHT()).half_even(RIGHT())
+fn basis(price: i128, index: i128) -> i128 {
+    let index = u32::try_from(index).expect("an index fits 32 bits");
+    RightLedger.half_even(RightLedger.basis(price, index))
 }
 
-fn amount_of(rate: i128, price: i128, size: u8) -> i128 {
-    amount(Fraction::whole(rate), price, size, RIGHT())
+/// The rate of minutes with these bases, none where one isn't valid.
+fn rate(bases: &[Option<i128>]) -> i128 {
+    let valid = |(number, basis): (usize, &Option<i128>)| {
+        let basis = Fraction::whole((*basis)?);
+        Some(ValidMinute { number, basis })
+    };
+    let minutes: Vec<ValidMinute> = (1..).zip(bases).filter_map(valid).collect();
+    RightLedger.half_even(RightLedger.rate(average_basis(&minutes, &RightLedger)))
+}
+
+fn clamped(rate: i128) -> i128 {
+    RightLedger.half_even(Fraction::whole(rate).clamped(terms().clamp))
+}
+
+fn amount(rate: i128, price: i128, size: u8) -> i128 {
+    RightLedger.amount(Fraction::whole(rate), price, size)
 }
 
 fn market(bid: i128, offer: i128) -> Market {
@@ -38,19 +52,19 @@ fn the_fourteen_rows_of_document_01() {
         (8400790, 8404832, -480_914),
     ];
     for (price, index, expected) in prices {
-        assert_eq!(basis(price, index, RIGHT()), expected);
+        assert_eq!(basis(price, index), expected);
     }
     let mut bases = prices.map(|(_, _, basis)| Some(basis));
-    assert_eq!(rounded_rate(&bases), -216_752);
+    assert_eq!(rate(&bases), -216_752);
     bases[2] = None;
-    assert_eq!(rounded_rate(&bases), -256_869);
-    assert_eq!(clamped_rate(-2_148_730), -2_000_000);
-    assert_eq!(amount_of(250_000, 11_674_700, 1), -29);
-    assert_eq!(amount_of(-180_000, 11_832_400, 1), 21);
-    assert_eq!(amount_of(2_000_000, 12_500, 10), -2);
-    assert_eq!(amount_of(2_000_000, 17_500, 10), -4);
-    assert!(spread_is_valid(market(39_900, 40_100), RIGHT()));
-    assert!(!spread_is_valid(market(39_900, 40_110), RIGHT()));
+    assert_eq!(rate(&bases), -256_869);
+    assert_eq!(clamped(-2_148_730), -2_000_000);
+    assert_eq!(amount(250_000, 11_674_700, 1), -29);
+    assert_eq!(amount(-180_000, 11_832_400, 1), 21);
+    assert_eq!(amount(2_000_000, 12_500, 10), -2);
+    assert_eq!(amount(2_000_000, 17_500, 10), -4);
+    assert!(RightLedger.spread_is_valid(market(39_900, 40_100), terms()));
+    assert!(!RightLedger.spread_is_valid(market(39_900, 40_110), terms()));
 }
 
 /// The minutes of the example under way: weight and basis of each.
@@ -91,15 +105,12 @@ fn check_row(name: &str, fields: &[i128], example: &mut Example, line: &str) {
             assert_eq!(found.is_some(), valid == 1, "{line}");
             assert_eq!(found.map_or(0, |(price, _)| price), price, "{line}");
             let exact = Fraction::new(2 * (offer - bid) * 10i128.pow(places as u32), offer + bid);
-            assert_eq!(exact.half_even(RIGHT()), spread, "{line}");
+            assert_eq!(RightLedger.half_even(exact), spread, "{line}");
         }
         ("basis", &[price, index, expected, micro]) => {
-            assert_eq!(basis(price, index, RIGHT()), expected, "{line}");
-            assert_eq!(
-                Fraction::new(expected, 1_000).half_even(RIGHT()),
-                micro,
-                "{line}"
-            );
+            assert_eq!(basis(price, index), expected, "{line}");
+            let exact = Fraction::new(expected, 1_000);
+            assert_eq!(RightLedger.half_even(exact), micro, "{line}");
         }
         ("minute", &[bid, offer, last, index, weight, expected]) => {
             example
@@ -113,11 +124,11 @@ fn check_row(name: &str, fields: &[i128], example: &mut Example, line: &str) {
         ("rate", &[valid, expected]) => {
             let bases = std::mem::take(&mut example.bases);
             assert_eq!(bases.iter().flatten().count() as i128, valid, "{line}");
-            assert_eq!(rounded_rate(&bases), expected, "{line}");
+            assert_eq!(rate(&bases), expected, "{line}");
         }
-        ("clamp", &[rate, expected]) => assert_eq!(clamped_rate(rate), expected, "{line}"),
+        ("clamp", &[rate, expected]) => assert_eq!(clamped(rate), expected, "{line}"),
         ("amount", &[rate, price, size, contracts, expected, funding]) => {
-            assert_eq!(amount_of(rate, price, size as u8), expected, "{line}");
+            assert_eq!(amount(rate, price, size as u8), expected, "{line}");
             assert_eq!(contracts * expected, funding, "{line}");
         }
         _ => panic!("unknown row: {line}"),
@@ -126,11 +137,13 @@ fn check_row(name: &str, fields: &[i128], example: &mut Example, line: &str) {
 
 /// Futures price and basis of a minute, none when its spread isn't valid.
 fn minute(bid: i128, offer: i128, last: i128, index: i128) -> Option<(i128, i128)> {
-    let market = market(bid, offer);
-    if !spread_is_valid(market, RIGHT()) {
-        return None;
-    }
-    let last = u32::try_from(last).ok().filter(|price| *price != 0);
-    let price = futures_price(market, last, RIGHT());
-    Some((price, basis(price, index, RIGHT())))
+    let minute = Minute {
+        market: Some(market(bid, offer)),
+        last: u32::try_from(last).ok().filter(|price| *price != 0),
+        index: u32::try_from(index).expect("an index fits 32 bits"),
+        halted: false,
+    };
+    let basis = RightLedger.minute_basis(&minute, terms())?;
+    let price = RightLedger.futures_price(minute.market?, minute.last);
+    Some((price, RightLedger.half_even(basis)))
 }

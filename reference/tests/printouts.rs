@@ -1,6 +1,6 @@
 //! Printouts and C runs of hand-made files.
 
-use reference::writer::Writer;
+use dayformat::Writer;
 use reference::{bench, c_run};
 
 fn printout(size: u8, file: &Writer) -> String {

@@ -1,7 +1,7 @@
 //! Each refusal that a file can meet, at and beyond its limit, and the checking order.
 
+use dayformat::Writer;
 use reference::bench;
-use reference::writer::Writer;
 
 /// Plays the records on a fresh book and gives the refused ones as (number, place).
 fn refusals(file: &Writer) -> Vec<(u8, usize)> {

@@ -1,7 +1,6 @@
 //! Compares what a program prints with what the reference prints.
 
-use reference::rules::Rules;
-use reference::{bench, library_printout_under};
+use reference::{bench, library_printout};
 use std::fs::File;
 use std::path::Path;
 use std::process::{Command, Stdio};
@@ -27,9 +26,7 @@ impl Check {
 
     /// A program that links the C library and prints accepted count and lists.
     pub fn library(command: &str) -> Self {
-        Check::new(command, |input| {
-            library_printout_under(Rules::right(), input)
-        })
+        Check::new(command, library_printout)
     }
 
     fn new(command: &str, expected: fn(&[u8]) -> String) -> Self {

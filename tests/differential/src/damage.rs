@@ -2,7 +2,7 @@
 
 use crate::random::Random;
 use crate::records::split;
-use reference::writer::Writer;
+use dayformat::{tag, Writer};
 
 /// The file with one damage to it.
 pub fn damage(random: &mut Random, file: &[u8]) -> Vec<u8> {
@@ -66,7 +66,7 @@ fn unknown_record(random: &mut Random) -> Vec<u8> {
 }
 
 fn wrong_length_record(random: &mut Random) -> Vec<u8> {
-    let tag = random.between(1, 7) as u8;
+    let tag = random.pick(&tag::KNOWN);
     record(random, tag)
 }
 

@@ -1,7 +1,7 @@
 //! What the profiles write their files with: markets, trades and days around a price level.
 
 use crate::random::Random;
-use reference::writer::Writer;
+use dayformat::{kind, Writer};
 
 pub const MINUTES: usize = 1_320;
 
@@ -123,15 +123,15 @@ impl Generator {
         match self.random.below(5) {
             0 => {
                 let (quantity, price) = (self.random.between(1, 40), self.near_price());
-                self.file.trade(accounts, 1, quantity, price)
+                self.file.trade(accounts, kind::SPREAD, quantity, price)
             }
             1 => {
                 let (quantity, price) = (self.random.between(250, 900), self.near_price());
-                self.file.trade(accounts, 2, quantity, price)
+                self.file.trade(accounts, kind::BLOCK, quantity, price)
             }
             _ => {
                 let (quantity, price) = (self.random.between(1, 40), self.near_ticked_price());
-                self.file.trade(accounts, 0, quantity, price)
+                self.file.trade(accounts, kind::SIMPLE, quantity, price)
             }
         };
     }

@@ -8,3 +8,4 @@ pub mod random;
 pub mod records;
 pub mod runner;
 pub mod shrink;
+pub mod wrong;

@@ -63,7 +63,7 @@ fn shorten(
 #[cfg(test)]
 mod tests {
     use super::*;
-    use reference::writer::Writer;
+    use dayformat::Writer;
 
     #[test]
     fn only_the_records_that_matter_remain() {

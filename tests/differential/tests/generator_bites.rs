@@ -1,8 +1,8 @@
 //! The generated inputs tell every wrong ledger from the right one and meet every refusal.
 
 use differential::profiles::{input, long_input};
-use reference::rules::{Rules, Wrong};
-use reference::{bench, bench_under, library_printout_under};
+use differential::wrong::{WrongLedger, ALL};
+use reference::{bench, bench_under, library_printout, library_printout_under};
 
 const FILES: u64 = 1_000;
 
@@ -13,22 +13,19 @@ struct Bites {
     first: Option<u64>,
 }
 
-fn differs(wrong: Wrong, input: &[u8], bench: &str, library: &str) -> bool {
-    let rules = Rules::wrong_in(wrong);
-    bench_under(rules, input) != bench || library_printout_under(rules, input) != library
+fn differs(wrong: &WrongLedger, input: &[u8], bench: &str, library: &str) -> bool {
+    bench_under(wrong.rules, input) != bench
+        || library_printout_under(wrong.rules, input) != library
 }
 
 /// The bites of every second seed, for each wrong ledger.
 fn bites(from: u64) -> Vec<Bites> {
-    let mut bites = vec![Bites::default(); Wrong::ALL.len()];
+    let mut bites = vec![Bites::default(); ALL.len()];
     for seed in (from..FILES).step_by(2) {
         let input = input(seed);
-        let (bench, library) = (
-            bench(&input),
-            library_printout_under(Rules::right(), &input),
-        );
-        for (wrong, bites) in Wrong::ALL.iter().zip(&mut bites) {
-            if differs(*wrong, &input, &bench, &library) {
+        let (bench, library) = (bench(&input), library_printout(&input));
+        for (wrong, bites) in ALL.iter().zip(&mut bites) {
+            if differs(wrong, &input, &bench, &library) {
                 bites.files += 1;
                 bites.first.get_or_insert(seed);
             }
@@ -38,10 +35,9 @@ fn bites(from: u64) -> Vec<Bites> {
 }
 
 /// A ledger with another limit of days differs only in a file of more than 2,600 days.
-fn differs_in_a_long_file(wrong: Wrong) -> bool {
+fn differs_in_a_long_file(wrong: &WrongLedger) -> bool {
     let input = long_input(0);
-    let right = library_printout_under(Rules::right(), &input);
-    library_printout_under(Rules::wrong_in(wrong), &input) != right
+    library_printout_under(wrong.rules, &input) != library_printout(&input)
 }
 
 #[test]
@@ -50,16 +46,16 @@ fn every_wrong_ledger_is_told_apart() {
     let even = bites(0);
     let odd = other.join().expect("the odd seeds are played");
     let mut never = Vec::new();
-    for (wrong, (even, odd)) in Wrong::ALL.iter().zip(even.iter().zip(&odd)) {
+    for (wrong, (even, odd)) in ALL.iter().zip(even.iter().zip(&odd)) {
         let first = even.first.into_iter().chain(odd.first).min();
         match first {
             Some(seed) => println!(
                 "{:>5} first {seed:>3} {}",
                 even.files + odd.files,
-                wrong.name()
+                wrong.name
             ),
-            None if differs_in_a_long_file(*wrong) => println!(" long file {}", wrong.name()),
-            None => never.push(wrong.name()),
+            None if differs_in_a_long_file(wrong) => println!(" long file {}", wrong.name),
+            None => never.push(wrong.name),
         }
     }
     assert!(never.is_empty(), "never told apart: {never:?}");

@@ -1,30 +1,10 @@
-//! The runner with the reference's own bench in the place of the program under test.
+//! The runner with the reference and wrong ledgers in the place of the program under test.
 
 use std::path::{Path, PathBuf};
 use std::process::{Command, Output};
 
-/// Builds `reference-bench`, which lies beside the runner.
-fn reference_bench() -> String {
-    let runner = Path::new(env!("CARGO_BIN_EXE_differential"));
-    let mut build = Command::new(env!("CARGO"));
-    build.args([
-        "build",
-        "--quiet",
-        "--package",
-        "reference",
-        "--bin",
-        "reference-bench",
-    ]);
-    if !cfg!(debug_assertions) {
-        build.arg("--release");
-    }
-    build.current_dir(env!("CARGO_MANIFEST_DIR"));
-    assert!(build.status().expect("cargo starts").success());
-    runner
-        .with_file_name("reference-bench")
-        .display()
-        .to_string()
-}
+/// Plays the right ledger unless it is given the name of a wrong one.
+const BENCH: &str = env!("CARGO_BIN_EXE_wrong-bench");
 
 fn folder(name: &str) -> PathBuf {
     let folder = Path::new(env!("CARGO_TARGET_TMPDIR")).join(name);
@@ -45,8 +25,8 @@ fn run(folder: &Path, program: &str, library: &str, count: &str) -> Output {
 
 #[test]
 fn a_right_program_shows_no_difference() {
-    let (folder, program) = (folder("right"), reference_bench());
-    let output = run(&folder, &program, &format!("{program} --library"), "60");
+    let folder = folder("right");
+    let output = run(&folder, BENCH, &format!("{BENCH} --library"), "60");
     let text = String::from_utf8_lossy(&output.stdout);
     assert_eq!(text, "differential: 60 files, 0 differences\n");
     assert!(output.status.success());
@@ -54,18 +34,18 @@ fn a_right_program_shows_no_difference() {
 
 #[test]
 fn a_wrong_bench_is_caught_saved_and_shrunk() {
-    let (folder, program) = (folder("wrong-bench"), reference_bench());
-    let wrong = format!("{program} --wrong unknown-not-in-places");
-    let output = run(&folder, &wrong, &format!("{program} --library"), "60");
+    let folder = folder("wrong-bench");
+    let wrong = format!("{BENCH} --wrong unknown-not-in-places");
+    let output = run(&folder, &wrong, &format!("{BENCH} --library"), "60");
     assert_eq!(output.status.code(), Some(1));
     assert_shrunk(&folder, &output);
 }
 
 #[test]
 fn a_wrong_library_is_caught_saved_and_shrunk() {
-    let (folder, program) = (folder("wrong-library"), reference_bench());
-    let wrong = format!("{program} --library --wrong unknown-accepted");
-    let output = run(&folder, &program, &wrong, "60");
+    let folder = folder("wrong-library");
+    let wrong = format!("{BENCH} --library --wrong unknown-accepted");
+    let output = run(&folder, BENCH, &wrong, "60");
     assert_eq!(output.status.code(), Some(1));
     assert_shrunk(&folder, &output);
 }

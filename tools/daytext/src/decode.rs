@@ -1,7 +1,7 @@
 //! Bytes to text.
 
 use crate::line::MOST_TIMES;
-use crate::record::Record;
+use crate::record::{Record, KINDS};
 use std::fmt;
 
 /// The text of a day file, each record with its place in the file as a comment.
@@ -86,11 +86,9 @@ struct Kind(u8);
 
 impl fmt::Display for Kind {
     fn fmt(&self, formatter: &mut fmt::Formatter) -> fmt::Result {
-        match self.0 {
-            0 => write!(formatter, "simple"),
-            1 => write!(formatter, "spread"),
-            2 => write!(formatter, "block"),
-            other => write!(formatter, "{other}"),
+        match KINDS.iter().find(|(kind, _)| *kind == self.0) {
+            Some((_, word)) => write!(formatter, "{word}"),
+            None => write!(formatter, "{}", self.0),
         }
     }
 }

@@ -11,6 +11,3 @@ mod value;
 
 pub use decode::decode;
 pub use encode::{encode, LineError};
-
-/// The bytes of its input that `funding-bench` reads, size byte included.
-pub const BENCH_LIMIT: usize = 65_536;

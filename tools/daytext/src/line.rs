@@ -1,7 +1,8 @@
 //! One line of the text.
 
-use crate::record::{Record, LONGEST_BODY};
+use crate::record::{Record, KINDS};
 use crate::value;
+use dayformat::LONGEST_BODY;
 use std::iter::Peekable;
 use std::ops::RangeInclusive;
 use std::str::SplitWhitespace;
@@ -88,14 +89,12 @@ impl Words<'_> {
     }
 
     fn kind(&mut self) -> Result<u8, String> {
-        let named = match self.0.peek() {
-            Some(&"simple") => 0,
-            Some(&"spread") => 1,
-            Some(&"block") => 2,
-            _ => return self.byte("kind", ", or simple, spread or block"),
-        };
-        self.0.next();
-        Ok(named)
+        for (kind, word) in KINDS {
+            if self.0.next_if_eq(&word).is_some() {
+                return Ok(kind);
+            }
+        }
+        self.byte("kind", ", or simple, spread or block")
     }
 
     fn fix(&mut self) -> Result<Record, String> {

@@ -1,5 +1,6 @@
 //! The program `daytext`.
 
+use dayformat::BENCH_LIMIT;
 use std::ffi::OsString;
 use std::fs;
 use std::io::{self, Read, Write};
@@ -67,11 +68,11 @@ fn encode(file: Option<&Path>) -> Result<(), Vec<String>> {
     // A comment may be in any encoding; other words have to be ASCII anyway.
     let bytes = daytext::encode(&String::from_utf8_lossy(&text))
         .map_err(|errors| errors.iter().map(ToString::to_string).collect::<Vec<_>>())?;
-    if bytes.len() > daytext::BENCH_LIMIT {
+    if bytes.len() > BENCH_LIMIT {
         eprintln!(
             "daytext: note: {} bytes, of which funding-bench reads the first {}",
             bytes.len(),
-            daytext::BENCH_LIMIT
+            BENCH_LIMIT
         );
     }
     write(&bytes)

@@ -1,15 +1,14 @@
-//! The records of a day file: a tag, a two-byte length and a body, high byte first.
+//! The records of a day file, each with its fields.
 
-/// The longest body that a two-byte length can state.
-pub const LONGEST_BODY: usize = u16::MAX as usize;
+use dayformat::tag::{CLOSE, FIX, HALT, MINUTE_END, QUOTE, RESUME, TRADE};
+use dayformat::{header, kind, Writer};
 
-const TRADE: u8 = 1;
-const QUOTE: u8 = 2;
-const MINUTE_END: u8 = 3;
-const HALT: u8 = 4;
-const RESUME: u8 = 5;
-const FIX: u8 = 6;
-const CLOSE: u8 = 7;
+/// The kinds of trades that have a word.
+pub const KINDS: [(u8, &str); 3] = [
+    (kind::SIMPLE, "simple"),
+    (kind::SPREAD, "spread"),
+    (kind::BLOCK, "block"),
+];
 
 #[derive(Clone, Debug, PartialEq, Eq)]
 pub enum Record {
@@ -41,7 +40,7 @@ pub enum Record {
 }
 
 impl Record {
-    /// The record of a tag and a body of at most `LONGEST_BODY` bytes.
+    /// The record of a tag and a body of at most `dayformat::LONGEST_BODY` bytes.
     pub fn new(tag: u8, body: &[u8]) -> Record {
         match (tag, body) {
             (TRADE, &[buyer, seller, kind, a, b, c, d, e, f, g, h]) => Record::Trade {
@@ -73,22 +72,13 @@ impl Record {
 
     /// The first record and the bytes after it; none if the end cuts it off.
     pub fn read(bytes: &[u8]) -> Option<(Record, &[u8])> {
-        let (&[tag, high, low], rest) = bytes.split_first_chunk::<3>()?;
-        let length = u16::from_be_bytes([high, low]);
-        let (body, rest) = rest.split_at_checked(usize::from(length))?;
+        let (tag, length, after) = header(bytes)?;
+        let (body, rest) = after.split_at_checked(length)?;
         Some((Record::new(tag, body), rest))
     }
 
     pub fn to_bytes(&self) -> Vec<u8> {
-        let (tag, body) = self.parts();
-        let length = u16::try_from(body.len()).expect("a body is at most LONGEST_BODY long");
-        let mut bytes = vec![tag];
-        bytes.extend(length.to_be_bytes());
-        bytes.extend(body);
-        bytes
-    }
-
-    fn parts(&self) -> (u8, Vec<u8>) {
+        let mut file = Writer::new();
         match self {
             Record::Trade {
                 buyer,
@@ -96,21 +86,15 @@ impl Record {
                 kind,
                 quantity,
                 price,
-            } => {
-                let mut body = vec![*buyer, *seller, *kind];
-                body.extend(quantity.to_be_bytes());
-                body.extend(price.to_be_bytes());
-                (TRADE, body)
-            }
-            Record::Quote { bid, offer } => {
-                (QUOTE, [bid.to_be_bytes(), offer.to_be_bytes()].concat())
-            }
-            Record::MinuteEnd { index } => (MINUTE_END, index.to_be_bytes().to_vec()),
-            Record::Halt => (HALT, Vec::new()),
-            Record::Resume => (RESUME, Vec::new()),
-            Record::Fix { price } => (FIX, price.to_be_bytes().to_vec()),
-            Record::Close => (CLOSE, Vec::new()),
-            Record::Other { tag, body } => (*tag, body.clone()),
-        }
+            } => file.trade((*buyer, *seller), *kind, *quantity, *price),
+            Record::Quote { bid, offer } => file.quote(*bid, *offer),
+            Record::MinuteEnd { index } => file.minute_ends(1, *index),
+            Record::Halt => file.halt(),
+            Record::Resume => file.resume(),
+            Record::Fix { price } => file.fix(*price),
+            Record::Close => file.close(),
+            Record::Other { tag, body } => file.record(*tag, body),
+        };
+        file.bytes
     }
 }

@@ -20,7 +20,7 @@ fn encode_and_fit_into_the_bench_program() {
     for path in examples() {
         let text = fs::read_to_string(&path).unwrap();
         let bytes = daytext::encode(&text).unwrap_or_else(|errors| panic!("{path:?}: {errors:?}"));
-        assert!(bytes.len() <= daytext::BENCH_LIMIT, "{path:?}");
+        assert!(bytes.len() <= dayformat::BENCH_LIMIT, "{path:?}");
         assert_eq!(daytext::encode(&daytext::decode(&bytes)), Ok(bytes));
     }
 }

@@ -1,5 +1,6 @@
 //! Every byte string has a text that gives it back.
 
+use dayformat::body_length;
 use std::ops::Range;
 
 /// Xorshift with a fixed seed, so that a failure can be repeated.
@@ -24,14 +25,13 @@ impl Random {
 
     /// A record whose length often fits its tag, with few different bodies.
     fn record(&mut self) -> Vec<u8> {
-        let tag = self.below(10);
-        let fitting = [0, 11, 8, 4, 0, 0, 4, 0, 0, 0][tag];
+        let tag = self.below(10) as u8;
         let length = match self.below(4) {
             0 => self.below(14),
-            _ => fitting,
+            _ => body_length(tag).unwrap_or(0),
         };
         let value = self.below(3) as u8;
-        let mut record = vec![tag as u8, 0, length as u8];
+        let mut record = vec![tag, 0, length as u8];
         record.extend((0..length).map(|place| value * (place % 2) as u8));
         record
     }

@@ -2,6 +2,7 @@
 
 use crate::generator::Generator;
 use crate::profiles::days::short_files;
+use dayformat::{body_length, tag, BENCH_LIMIT, HEADER};
 
 /// Bytes without plan, many of them small so that some make records.
 pub fn random_bytes(generator: &mut Generator) {
@@ -18,9 +19,9 @@ pub fn random_bytes(generator: &mut Generator) {
 
 /// Records of known tags and lengths with bodies without plan.
 pub fn random_bodies(generator: &mut Generator) {
-    const LENGTHS: [(u8, usize); 7] = [(1, 11), (2, 8), (3, 4), (4, 0), (5, 0), (6, 4), (7, 0)];
     for _ in 0..generator.random.below(60) {
-        let (tag, length) = generator.random.pick(&LENGTHS);
+        let tag = generator.random.pick(&tag::KNOWN);
+        let length = body_length(tag).unwrap_or(0);
         let body: Vec<u8> = (0..length).map(|_| generator.random.byte()).collect();
         generator.file.record(tag, &body);
     }
@@ -38,9 +39,11 @@ pub fn refused_sizes(generator: &mut Generator) {
 /// Records around the end of the 65,536 bytes that the bench counts.
 pub fn bench_limit(generator: &mut Generator) {
     short_files(generator);
-    let before = 1 + generator.file.bytes.len() + 3;
+    let before = 1 + generator.file.bytes.len() + HEADER;
     let gap = generator.random.below(12) as usize;
-    generator.file.record(9, &vec![0; 65_536 - before - gap]);
+    generator
+        .file
+        .record(9, &vec![0; BENCH_LIMIT - before - gap]);
     for _ in 0..5 {
         match generator.random.below(4) {
             0 => generator.any_trade(),

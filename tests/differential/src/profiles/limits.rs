@@ -1,6 +1,7 @@
 //! Limits met exactly and passed by one.
 
 use crate::generator::{Generator, MINUTES};
+use dayformat::kind::{BLOCK, SIMPLE, SPREAD};
 
 const LARGEST: u32 = 100_000;
 
@@ -23,7 +24,7 @@ pub fn positions_and_volumes(generator: &mut Generator) {
 fn trades(generator: &mut Generator, accounts: (u8, u8), count: u32, quantity: u32) {
     let price = generator.near_ticked_price();
     for _ in 0..count {
-        generator.file.trade(accounts, 0, quantity, price);
+        generator.file.trade(accounts, SIMPLE, quantity, price);
     }
 }
 
@@ -108,7 +109,9 @@ fn any_field(generator: &mut Generator) {
     match generator.random.below(6) {
         0 | 1 => {
             let accounts = generator.two_accounts();
-            let kind = generator.random.pick(&[0, 0, 1, 1, 2, 2, 3, 255]);
+            let kind = generator
+                .random
+                .pick(&[SIMPLE, SIMPLE, SPREAD, SPREAD, BLOCK, BLOCK, 3, 255]);
             let quantity = generator.random.pick(&[
                 0,
                 1,

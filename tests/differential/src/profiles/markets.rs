@@ -1,6 +1,7 @@
 //! Markets, valid minutes, rates and amounts.
 
 use crate::generator::{Generator, MINUTES};
+use dayformat::kind::{BLOCK, SIMPLE, SPREAD};
 
 /// One or two days with everything in them.
 pub fn busy_days(generator: &mut Generator) {
@@ -82,12 +83,12 @@ fn half_penny_fix(generator: &mut Generator, price: u32) {
     let accounts = generator.two_accounts();
     let by_trade = price.is_multiple_of(10) && generator.random.chance(50);
     if by_trade {
-        generator.file.trade(accounts, 0, 2, price);
+        generator.file.trade(accounts, SIMPLE, 2, price);
     }
     generator.file.minute_ends(1, 1_000_000);
     generator.file.fix(if by_trade { 0 } else { price });
     if generator.random.chance(50) {
-        generator.file.trade(accounts, 1, 3, price);
+        generator.file.trade(accounts, SPREAD, 3, price);
     }
     generator.file.close();
 }
@@ -113,7 +114,7 @@ fn spread_edge(generator: &mut Generator) -> usize {
         .random
         .pick(&[bid, offer, bid - 10, offer + 10, bid + 10, offer - 10]);
     let accounts = generator.two_accounts();
-    let kind = generator.random.pick(&[0, 1, 2]);
+    let kind = generator.random.pick(&[SIMPLE, SPREAD, BLOCK]);
     generator.file.quote(bid, offer);
     if generator.random.chance(70) {
         generator.file.trade(accounts, kind, 250, last);

@@ -1,6 +1,7 @@
 //! Settlement prices, positions and cash over days.
 
 use crate::generator::{Generator, MINUTES};
+use dayformat::kind::SIMPLE;
 
 /// Trades of each kind before, in and after the last minute.
 pub fn last_minute(generator: &mut Generator) {
@@ -30,10 +31,14 @@ fn tied_trades(generator: &mut Generator) {
     let accounts = generator.two_accounts();
     let price = generator.near_ticked_price().min(49_999_980);
     let first = generator.random.pick(&[1, 3]);
-    generator.file.trade(accounts, 0, first, price);
-    generator.file.trade(accounts, 0, 4 - first, price + 10);
+    generator.file.trade(accounts, SIMPLE, first, price);
+    generator
+        .file
+        .trade(accounts, SIMPLE, 4 - first, price + 10);
     if generator.random.chance(20) {
-        generator.file.trade((accounts.0, accounts.0), 0, 4, price);
+        generator
+            .file
+            .trade((accounts.0, accounts.0), SIMPLE, 4, price);
     }
 }
 
@@ -93,13 +98,19 @@ pub fn round_trips(generator: &mut Generator) {
     for _ in 0..generator.random.between(1, 5) {
         let (first, second) = generator.two_accounts();
         let quantity = generator.random.between(1, 9);
-        generator.file.trade((first, second), 0, quantity, price);
+        generator
+            .file
+            .trade((first, second), SIMPLE, quantity, price);
         if generator.random.chance(60) {
-            generator.file.trade((second, first), 0, quantity, price);
+            generator
+                .file
+                .trade((second, first), SIMPLE, quantity, price);
         }
         if generator.random.chance(40) {
             let other = generator.near_ticked_price();
-            generator.file.trade((first, first), 0, quantity, other);
+            generator
+                .file
+                .trade((first, first), SIMPLE, quantity, other);
         }
         if generator.random.chance(30) {
             generator.tight_quote();

@@ -26,6 +26,7 @@ const RUST: &str = "rust";
 
 type Run = fn(u8, &[u8], &mut [i64], &mut [i64]) -> u64;
 
+#[link(name = "funding", kind = "static")]
 extern "C" {
     fn funding_run(
         size: u8,
@@ -36,7 +37,9 @@ extern "C" {
         cash: *mut i64,
         cash_len: usize,
     ) -> u64;
+}
 
+extern "C" {
     /// The C library's processor time in microseconds.
     fn clock() -> c_long;
 }

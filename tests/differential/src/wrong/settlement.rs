@@ -1,0 +1,77 @@
+//! Wrong settlement prices.
+
+use dayformat::kind::{BLOCK, SIMPLE, SPREAD};
+use reference::call::{Call, Trade};
+use reference::history::Day;
+use reference::rules::{CallRules, RightLedger};
+use reference::settlement::PriceRule;
+
+pub struct BlocksInSettlement;
+
+impl CallRules for BlocksInSettlement {
+    fn counts_in_settlement(&self, trade: Trade) -> bool {
+        trade.kind == SIMPLE || trade.kind == BLOCK
+    }
+}
+
+pub struct SpreadTradesInSettlement;
+
+impl CallRules for SpreadTradesInSettlement {
+    fn counts_in_settlement(&self, trade: Trade) -> bool {
+        trade.kind == SIMPLE || trade.kind == SPREAD
+    }
+}
+
+pub struct LateTradesInSettlement;
+
+impl CallRules for LateTradesInSettlement {
+    fn settlement_calls<'a>(&self, day: &'a Day) -> &'a [Call] {
+        let start = day.place_after_minute(self.day_length(day) - 1);
+        &day.calls[start..day.fix.unwrap_or(day.calls.len())]
+    }
+}
+
+pub struct IndexOfMinuteBefore;
+
+impl CallRules for IndexOfMinuteBefore {
+    fn index(&self, day: &Day) -> i128 {
+        day.index(self.day_length(day) - 1).into()
+    }
+}
+
+pub struct OlderIndexKept;
+
+impl CallRules for OlderIndexKept {
+    fn previous_index(&self, earlier: &[Day]) -> i128 {
+        let mut indexes = earlier.iter().rev().map(|day| self.index(day));
+        indexes.find(|index| *index != 0).unwrap_or(0)
+    }
+}
+
+pub struct FirstDayAtIndex;
+
+impl CallRules for FirstDayAtIndex {
+    fn index_price(&self, index: i128, previous_price: i128, previous_index: i128) -> Option<i128> {
+        match previous_price {
+            0 => Some(index).filter(|index| *index != 0),
+            _ => RightLedger.index_price(index, previous_price, previous_index),
+        }
+    }
+}
+
+pub struct TradesBeforeSetPrice;
+
+impl CallRules for TradesBeforeSetPrice {
+    fn price_rules(&self) -> &'static [PriceRule] {
+        &[PriceRule::Trades, PriceRule::SetPrice, PriceRule::Index]
+    }
+}
+
+pub struct IndexRuleUnbounded;
+
+impl CallRules for IndexRuleUnbounded {
+    fn index_price(&self, index: i128, previous_price: i128, previous_index: i128) -> Option<i128> {
+        let given = index != 0 && previous_price != 0 && previous_index != 0;
+        given.then_some(index + previous_price - previous_index)
+    }
+}
