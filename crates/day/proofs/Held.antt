@@ -18,9 +18,7 @@ use Rattle.funding.specs.declared.FinalMinute.{FinalMinute}
 use Rattle.funding.specs.Price.{leastPrice, largestPrice, noneOrPrice, noneOrTicked}
 use Rattle.funding.specs.Minute.{weightedLimit}
 use Rattle.funding.proofs.Prices.{ticked-price}
-use Rattle.day.specs.declared.market.Market.{Market}
-use Rattle.day.specs.declared.Day.{Day}
-use Rattle.day.specs.declared.figures.Figures.{Figures}
+use Rattle.day.specs.Types.{Market, Day, Figures}
 use Rattle.day.specs.Day.{dayLength, twoSided}
 use Rattle.day.specs.Opening.{hundredth, tenth, isSize}
 use Rattle.day.specs.Limits.{mostDays, minutesHold, uncrossed, marketHolds, minuteMarketHolds, marketsHold, mostAmount, pricesHold, fixHolds, finalHolds, dayHolds, figuresHold}

@@ -1,4 +1,4 @@
--- An accepted call leaves figures within their limits: the statement of specs/Keeping.antt.
+-- An accepted call leaves figures within their limits: the statement of specs/Outcome.antt.
 --     accrues                 what the weighted sum of a valid minute requires
 --     price-at, amount-at     the price and the amount of a fix
 --     trade-fields            what refusal 5 leaves of a trade's values
@@ -21,18 +21,14 @@ use Rattle.funding.specs.Fixing.{rateOf}
 use Rattle.funding.specs.declared.Terms.{Terms}
 use Rattle.funding.proofs.Prices.{price-to, none-or-price, the-price, price-most}
 use Rattle.funding.proofs.Bounds.{basis-size, futures-is-price, accrued-size, clamped-size, amount-size, settlement-is-price}
-use Rattle.day.specs.declared.market.Market.{Market}
-use Rattle.day.specs.declared.trade.Trade.{Trade}
-use Rattle.day.specs.declared.call.Call.{Call}
+use Rattle.day.specs.Types.{Market, Trade, Call, Day, Figures}
 use Rattle.day.specs.declared.call.Call.the-variants as call
-use Rattle.day.specs.declared.Day.{Day}
-use Rattle.day.specs.declared.figures.Figures.{Figures}
 use Rattle.day.specs.Day.{dayLength, termsOn, tieOn, noMarket, emptyDay, isFixed, twoSided, inLastMinute, simple, block, asMinute, isValid, minuteOf}
 use Rattle.day.specs.Effects.{withMarkets, quoted, traded, minuteEnded, withMinutes, withTrades, withFixed, nextMinute, fixPrice, fixRate, fixAmount, fixedAt, figuresAfter}
 use Rattle.day.specs.Opening.{tenth}
 use Rattle.day.specs.Limits.{mostDays, mostAmount, uncrossed, marketHolds, minuteMarketHolds, marketsHold, dayHolds}
 use Rattle.day.specs.Refusals.{isFull, dayForbids, mostQuantity, leastBlock, tradeOutside, noAccounts, Accounts}
-use Rattle.day.specs.Keeping.{FiguresKept}
+use Rattle.day.specs.Outcome.{FiguresKept}
 use Rattle.day.proofs.Held.{HeldDay, HeldFigures, HeldFinal, held-day, held-figures, held-final, figures-hold, size-most, held-minute}
 use Rattle.day.proofs.Passed.{Passed, passed}
 

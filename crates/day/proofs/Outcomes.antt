@@ -5,9 +5,7 @@
 use mathlib.Core.Path.{_≡_, _∙_}
 use Prim.Native.Nat.{ℕ}
 use borrow.Author.Tests.{ne-eqb}
-use Rattle.day.specs.declared.call.Call.{Call}
-use Rattle.day.specs.declared.figures.Figures.{Figures}
-use Rattle.day.specs.declared.outcome.Outcome.{Outcome}
+use Rattle.day.specs.Types.{Call, Figures, Outcome}
 use Rattle.day.specs.Effects.{figuresAfter, fixingOf}
 use Rattle.day.specs.Refusals.{figuresRefusal}
 use Rattle.day.specs.Outcome.{numbered, outcome}

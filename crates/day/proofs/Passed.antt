@@ -10,8 +10,7 @@ use Prim.Native.Nat.{ℕ, zero, suc}
 use lib.Dec.{eqb}
 use borrow.Author.Tests.{eq-eqb, not-false}
 use Rattle.integers.proofs.Tests.{both-true, both-false}
-use Rattle.day.specs.declared.call.Call.{Call}
-use Rattle.day.specs.declared.figures.Figures.{Figures}
+use Rattle.day.specs.Types.{Call, Figures}
 use Rattle.day.specs.Refusals.{notAllowed, haltForbids, outsideField, crossed, unpriced, Accounts, sentences, firstMet}
 
 -- whether the sentence at a place of a list is met

@@ -10,11 +10,7 @@ use Rattle.funding.specs.declared.FinalMinute.{FinalMinute}
 use Rattle.funding.specs.Price.{isPresent}
 use Rattle.funding.specs.Terms.{standardTerms}
 use Rattle.funding.specs.Minute.{Minute, withinSpread, futuresPrice, mostMinutes}
-use Rattle.day.specs.declared.market.Market.{Market}
-use Rattle.day.specs.declared.market.Markets.{Markets}
-use Rattle.day.specs.declared.trade.Trade.{Trade}
-use Rattle.day.specs.declared.Day.{Day}
-use Rattle.day.specs.declared.figures.Figures.{Figures}
+use Rattle.day.specs.Types.{Market, Markets, Trade, Day, Figures}
 
 -- ---- the numbers in force on the open day
 

@@ -2,20 +2,10 @@
 use mathlib.Core.Bool.{Bool, true, false, cond}
 use Prim.Native.Nat.{ℕ, _+_}
 use lib.IntN.{ℤ, pos}
-use Rattle.funding.specs.declared.FinalMinute.{FinalMinute}
 use Rattle.funding.specs.Minute.{basisOf, accrued}
 use Rattle.funding.specs.Fixing.{rateOf, clampedTo, amountOf, settlementPrice}
-use Rattle.day.specs.declared.market.Market.{Market}
-use Rattle.day.specs.declared.market.Markets.{Markets}
-use Rattle.day.specs.declared.trade.Trade.{Trade}
-use Rattle.day.specs.declared.call.Call.{Call}
+use Rattle.day.specs.Types.{Market, Markets, Trade, Call, Minutes, Trades, Fixed, Day, Figures, Fixing}
 use Rattle.day.specs.declared.call.Call.the-variants as call
-use Rattle.day.specs.declared.Day.{Day}
-use Rattle.day.specs.declared.Minutes.{Minutes}
-use Rattle.day.specs.declared.Trades.{Trades}
-use Rattle.day.specs.declared.Fixed.{Fixed}
-use Rattle.day.specs.declared.figures.Figures.{Figures}
-use Rattle.day.specs.declared.outcome.Fixing.{Fixing}
 use Rattle.day.specs.Calls.{onFix}
 use Rattle.day.specs.Day.{dayLength, termsOn, tieOn, noMarket, noMarkets, emptyDay, inLastMinute, isFinal, withTrade, asMinute, isValid, minuteOf}
 
@@ -42,20 +32,20 @@ withDay f halted d = record { size = f .size; closed = f .closed; halted = halte
 abbrev pub quoted : Markets → Market → Markets
 quoted m q = record { standing = q; minute = asMinute q (m .minute) }
 
--- a kind 0 trade of the last minute counts towards the settlement price
-abbrev pub settlingAfter : Day → Trade → FinalMinute
-settlingAfter d t = cond (isFinal (dayLength d) (d .minutes .ended) t) (withTrade (d .trades .settling) t) (d .trades .settling)
-
--- 01: "The price becomes the day's last trade, whatever its kind"
+-- 01: "The price becomes the day's last trade, whatever its kind"; a kind 0 trade of the last minute counts towards the settlement price
 abbrev pub traded : Day → Trade → Trades
-traded d t = record { last = t .price; settling = settlingAfter d t }
+traded d t = record {
+  last = t .price;
+  settling = cond (isFinal (dayLength d) (d .minutes .ended) t) (withTrade (d .trades .settling) t) (d .trades .settling);
+}
 
 -- S after a minute with this index
 abbrev pub weightedAfter : Day → Bool → ℕ → ℤ
 weightedAfter d valid u =
     cond valid (accrued (d .minutes .weighted) (d .minutes .valid) (basisOf (minuteOf (d .markets .minute) (d .trades .last) u .F) u)) (d .minutes .weighted)
 
--- 01: "k rises by 1; S rises by k × basis. An invalid minute changes neither. Ended minutes rise by 1 in both cases. … The u of minute 1,320 is the day's index"
+-- 01: "k rises by 1; S rises by k × basis. An invalid minute changes neither. Ended minutes rise by 1 in both cases. …
+-- The u of minute 1,320 is the day's index"
 abbrev pub minuteEnded : Day → Bool → ℕ → Minutes
 minuteEnded d valid u = record {
   ended = d .minutes .ended + 1;

@@ -5,12 +5,8 @@ use Prim.Native.Nat.{ℕ, _+_, _*_, _<_, _≤_, _^_}
 use Rattle.funding.specs.declared.FinalMinute.{FinalMinute}
 use Rattle.funding.specs.Price.{largestPrice}
 use Rattle.funding.specs.Minute.{basisOf, mostMinutes, Accrues}
-use Rattle.day.specs.declared.trade.Trade.{Trade}
-use Rattle.day.specs.declared.Day.{Day}
-use Rattle.day.specs.declared.figures.Figures.{Figures}
+use Rattle.day.specs.Types.{Trade, Day, Figures, Fixing, Outcome}
 use Rattle.day.specs.Day.{minuteOf}
-use Rattle.day.specs.declared.outcome.Fixing.{Fixing}
-use Rattle.day.specs.declared.outcome.Outcome.{Outcome}
 use Rattle.day.specs.Effects.{withDay}
 use Rattle.day.specs.Opening.{tenth}
 

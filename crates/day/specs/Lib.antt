@@ -1,3 +1,4 @@
+pub mod Types
 pub mod Calls
 pub mod Day
 pub mod Effects
@@ -5,5 +6,4 @@ pub mod Opening
 pub mod Limits
 pub mod Refusals
 pub mod Outcome
-pub mod Keeping
 pub mod Inner

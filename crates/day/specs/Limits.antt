@@ -6,10 +6,7 @@ use Rattle.integers.specs.Size.{within}
 use Rattle.funding.specs.declared.FinalMinute.{FinalMinute}
 use Rattle.funding.specs.Price.{leastPrice, largestPrice, noneOrPrice, noneOrTicked}
 use Rattle.funding.specs.Minute.{weightedLimit}
-use Rattle.day.specs.declared.market.Market.{Market}
-use Rattle.day.specs.declared.market.Markets.{Markets}
-use Rattle.day.specs.declared.Day.{Day}
-use Rattle.day.specs.declared.figures.Figures.{Figures}
+use Rattle.day.specs.Types.{Market, Markets, Day, Figures}
 use Rattle.day.specs.Day.{dayLength, twoSided, isFixed}
 use Rattle.day.specs.Opening.{isSize}
 

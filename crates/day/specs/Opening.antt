@@ -2,8 +2,7 @@
 use mathlib.Core.Bool.{Bool, false, cond, _||_}
 use Prim.Native.Nat.{ℕ}
 use lib.Dec.{eqb}
-use Rattle.day.specs.declared.figures.Figures.{Figures}
-use Rattle.day.specs.declared.outcome.Outcome.{Outcome}
+use Rattle.day.specs.Types.{Figures, Outcome}
 use Rattle.day.specs.Day.{emptyDay}
 use Rattle.day.specs.Effects.{noFixing}
 

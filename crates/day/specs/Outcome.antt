@@ -1,11 +1,11 @@
 -- What a call makes of the figures.
-use mathlib.Core.Bool.{cond}
+use mathlib.Core.Path.{_≡_}
+use mathlib.Core.Bool.{true, cond}
 use Prim.Native.Nat.{ℕ}
 use lib.Dec.{eqb}
-use Rattle.day.specs.declared.call.Call.{Call}
-use Rattle.day.specs.declared.figures.Figures.{Figures}
-use Rattle.day.specs.declared.outcome.Outcome.{Outcome}
+use Rattle.day.specs.Types.{Call, Figures, Outcome}
 use Rattle.day.specs.Effects.{noFixing, figuresAfter, fixingOf}
+use Rattle.day.specs.Limits.{finalHolds, figuresHold}
 use Rattle.day.specs.Refusals.{figuresRefusal}
 
 -- figures with a refusal's number, 0 for none, and no fix
@@ -23,3 +23,9 @@ outcomeBy number f c = record {
 -- and a call whose accounts give no refusal
 abbrev pub outcome : Figures → Call → Outcome
 outcome f c = outcomeBy (figuresRefusal f c) f c
+
+-- an accepted call leaves figures within their limits, where the accounts' v add up to so much: proved in proofs/Keeping.antt
+abbrev pub FiguresKept : Type 0
+FiguresKept =
+    (f : Figures) (c : Call) (v : ℕ) → figuresHold f ≡ true → finalHolds (f .day .trades .settling) v ≡ true → figuresRefusal f c ≡ 0
+    → figuresHold (figuresAfter f c) ≡ true

@@ -4,10 +4,7 @@ use mathlib.Core.List.{List, [], _∷_}
 use Prim.Native.Nat.{ℕ}
 use lib.Dec.{leb, ltb, eqb}
 use Rattle.funding.specs.Price.{isPrice, isTicked, isPresent, noneOrPrice, noneOrTicked}
-use Rattle.day.specs.declared.trade.Trade.{Trade}
-use Rattle.day.specs.declared.call.Call.{Call}
-use Rattle.day.specs.declared.Day.{Day}
-use Rattle.day.specs.declared.figures.Figures.{Figures}
+use Rattle.day.specs.Types.{Trade, Call, Day, Figures}
 use Rattle.day.specs.Calls.{onQuote, onTrade, onHalt, onResume, onMinuteEnd, onFix, onClose}
 use Rattle.day.specs.Day.{dayLength, isFixed, simple, block}
 use Rattle.day.specs.Limits.{mostDays, uncrossed}

@@ -6,7 +6,7 @@ ghost use Rattle.funding.specs.Minute.{mostMinutes};
 ghost use Rattle.day.specs.Day.{dayLength, noMarkets, emptyDay, inLastMinute};
 ghost use Rattle.day.specs.Limits.{minutesHold, dayHolds};
 ghost use Rattle.day.specs.Effects.{withMarkets, withMinutes, withTrades, withFixed};
-ghost use Rattle.day.specs.Effects.{settlingAfter, weightedAfter, minuteEnded, nextMinute};
+ghost use Rattle.day.specs.Effects.{weightedAfter, minuteEnded, nextMinute};
 ghost use Rattle.day.specs.Effects.{quoted as Effects·quoted};
 ghost use Rattle.day.specs.Effects.{traded as Effects·traded};
 ghost use Rattle.day.specs.Refusals.{forbidsMinuteEnd, forbidsFix};
@@ -57,8 +57,8 @@ pub struct Fixed {
 
 // The day's figures, which a close empties. A price, an index or a side is 0 where there is none.
 pub struct Day {
-    pub markets: Markets,
     pub minutes: Minutes,
+    pub markets: Markets,
     pub trades: Trades,
     pub fixed: Fixed,
 }
@@ -68,13 +68,13 @@ impl Day {
         ensures { λ r. ⌜ r ≡ emptyDay ⌝ }
     {
         Self {
-            markets: Markets::none(),
             minutes: Minutes {
                 ended: 0,
                 valid: 0,
                 weighted: 0,
                 index: 0,
             },
+            markets: Markets::none(),
             trades: Trades {
                 last: 0,
                 settling: FinalMinute {
@@ -152,31 +152,25 @@ impl Day {
         self
     }
 
-    // The trades of the last minute, after one more. Room for it in n and in the gross is required.
-    fn settling_after(self, t: Trade) -> FinalMinute
-        requires { ⌜ RoomForTrade (self .trades .settling) t ⌝ }
-        ensures { λ r. ⌜ r ≡ settlingAfter self t ⌝ }
-    {
-        if self.is_in_last_minute() & (t.kind == Trade::SIMPLE) {
-            FinalMinute {
-                contracts: self.trades.settling.contracts + t.quantity,
-                gross: self.trades.settling.gross + t.quantity as u64 * t.price as u64,
-            }
-        } else {
-            self.trades.settling
-        }
-    }
-
-    pub(crate) fn traded(mut self, t: Trade) -> Day
+    // Room for the trade in n and in the gross is required.
+    pub(crate) fn traded(self, t: Trade) -> Day
         requires { ⌜ RoomForTrade (self .trades .settling) t ⌝ }
         ensures { λ r. ⌜ r ≡ withTrades self (Effects·traded self t) ⌝ }
     {
-        let trades = Trades {
-            last: t.price,
-            settling: self.settling_after(t),
-        };
-        self.trades = trades;
-        self
+        let mut after = self;
+        if self.is_in_last_minute() & (t.kind == Trade::SIMPLE) {
+            let trades = Trades {
+                last: t.price,
+                settling: FinalMinute {
+                    contracts: self.trades.settling.contracts + t.quantity,
+                    gross: self.trades.settling.gross + t.quantity as u64 * t.price as u64,
+                },
+            };
+            after.trades = trades;
+            return after;
+        }
+        after.trades.last = t.price;
+        after
     }
 
     // The weighted sum after a minute, valid or not.
@@ -219,13 +213,13 @@ impl Day {
         requires { ⌜ Endable self valid index ⌝ }
         ensures { λ r. ⌜ r ≡ withMinutes (withMarkets self (nextMinute (self .markets))) (minuteEnded self valid index) ⌝ }
     {
-        let minutes = Minutes {
-            ended: self.minutes.ended + 1,
-            valid: self.valid_after(valid),
-            weighted: self.weighted_after(valid, index),
-            index: self.index_after(index),
-        };
-        self.markets = self.markets.next_minute();
+        let markets = self.markets.next_minute();
+        let mut minutes = self.minutes;
+        minutes.index = self.index_after(index);
+        minutes.weighted = self.weighted_after(valid, index);
+        minutes.valid = self.valid_after(valid);
+        minutes.ended = self.minutes.ended + 1;
+        self.markets = markets;
         self.minutes = minutes;
         self
     }

@@ -2,13 +2,13 @@
 use Prim.Native.Nat.{ℕ, zero, suc}
 use mathlib.Core.List.{List, [], _∷_}
 use lib.ListN.{length}
-use Rattle.day.specs.declared.call.Call.{Call}
+use Rattle.day.specs.Types.{Call}
 use Rattle.dayfile.specs.declared.Read.{Read}
 use Rattle.dayfile.specs.declared.Read.the-variants as read
 use Rattle.dayfile.specs.Record.{readAt}
 
 -- what was read at a place, and then what follows from the next one.
--- "A file record is cut off by the end of the file, which ends the run"
+-- 01: "A file record is cut off by the end of the file, which ends the run"
 abbrev pub followed : Read → (ℕ → List Read) → List Read
 followed read.End rest = []
 followed read.CutOff rest = read.CutOff ∷ []

@@ -4,10 +4,8 @@ use mathlib.Core.List.{List}
 use mathlib.Core.Bool.{Bool, cond, _&&_}
 use lib.ListN.{length, getD}
 use lib.Dec.{ltb, leb, eqb}
-use Rattle.day.specs.declared.call.Call.{Call}
+use Rattle.day.specs.Types.{Market, Trade, Call}
 use Rattle.day.specs.declared.call.Call.the-variants as call
-use Rattle.day.specs.declared.trade.Trade.{Trade}
-use Rattle.day.specs.declared.market.Market.{Market}
 use Rattle.dayfile.specs.declared.Tag.{Tag}
 use Rattle.dayfile.specs.declared.Tag.the-variants as tag
 use Rattle.dayfile.specs.declared.Tagged.{Tagged}
@@ -19,14 +17,14 @@ use Rattle.dayfile.specs.declared.Read.the-variants as read
 abbrev pub byteAt : List ℕ → ℕ → ℕ
 byteAt file at = getD file at 0
 
--- numbers of two and of four bytes, "high byte first"
+-- numbers of two and of four bytes: 01, "high byte first"
 abbrev pub twoBytes : List ℕ → ℕ → ℕ
 twoBytes file at = byteAt file at * 256 + byteAt file (at + 1)
 
 abbrev pub fourBytes : List ℕ → ℕ → ℕ
 fourBytes file at = twoBytes file at * 65536 + twoBytes file (at + 2)
 
--- "Tag 1 trade: buyer 1 byte, seller 1, kind 1, quantity 4, price 4. Tag 2 quote: bid 4, offer 4. Tag 3 minute end: 4.
+-- 01: "Tag 1 trade: buyer 1 byte, seller 1, kind 1, quantity 4, price 4. Tag 2 quote: bid 4, offer 4. Tag 3 minute end: 4.
 -- Tag 4 halt, 5 resume, 7 close: 0 bytes. Tag 6 fix: 4. Other tags are unknown."
 abbrev pub byteOf : Tag → ℕ
 byteOf tag.Trade = 1
@@ -81,7 +79,7 @@ callOf file tag.Resume body = call.Resume
 callOf file tag.Fix body = call.Fix (fourBytes file body)
 callOf file tag.Close body = call.Close
 
--- "a one-byte tag, a two-byte length, a body": where the body starts, its stated length, and where the next record starts
+-- 01: "a one-byte tag, a two-byte length, a body": where the body starts, its stated length, and where the next record starts
 abbrev pub bodyAt : ℕ → ℕ
 bodyAt at = at + 3
 
@@ -91,8 +89,7 @@ statedLength file at = twoBytes file (at + 1)
 abbrev pub nextAt : List ℕ → ℕ → ℕ
 nextAt file at = bodyAt at + statedLength file at
 
--- a complete record with this tag. "a known tag has a wrong length, and its body is passed over";
--- "The reader passes over complete unknown records"
+-- a complete record with this tag: 01, "a known tag has a wrong length, and its body is passed over", "The reader passes over complete unknown records"
 abbrev pub complete : List ℕ → ℕ → Tagged → Read
 complete file at tagged.Unknown = read.Unknown (nextAt file at)
 complete file at (tagged.Known t) =
@@ -100,7 +97,7 @@ complete file at (tagged.Known t) =
     (read.Known (nextAt file at) (callOf file t (bodyAt at)))
     (read.WrongLength (nextAt file at))
 
--- "A file record is cut off by the end of the file", whatever its tag and length: it ends past the file's end. One or two bytes
+-- 01: "A file record is cut off by the end of the file", whatever its tag and length: it ends past the file's end. One or two bytes
 -- left over are cut off too, since tag and length already end past it.
 unfoldable pub readAt : List ℕ → ℕ → Read
 readAt file at =

@@ -10,9 +10,7 @@ use Rattle.integers.specs.Lists.{keepIf}
 use Rattle.funding.specs.declared.Terms.{Terms}
 use Rattle.funding.specs.Terms.{standardTerms}
 use Rattle.funding.specs.Minute.{Minute, mostMinutes}
-use Rattle.day.specs.declared.market.Market.{Market}
-use Rattle.day.specs.declared.trade.Trade.{Trade}
-use Rattle.day.specs.declared.call.Call.{Call}
+use Rattle.day.specs.Types.{Market, Trade, Call}
 use Rattle.day.specs.Calls.{onQuote, onTrade, onHalt, onResume, onMinuteEnd, onFix, onClose}
 use Rattle.day.specs.Day.{noMarket, asMinute, isFinal, isValid, minuteOf}
 
@@ -109,7 +107,7 @@ validOf (m ∷ ms) = keepIf (endsValid m) (minuteOf (minuteMarket (m .before)) (
 abbrev pub validMinutes : History → List Minute
 validMinutes h = validOf (minuteEnds h)
 
--- the open day's "final-minute kind 0 trades"
+-- 01: the open day's "final-minute kind 0 trades"
 unfoldable pub finalTrades : History → List Trade
 finalTrades [] = []
 finalTrades (c ∷ h) = onTrade (λ t. keepIf (isFinal (lengthOf h) (minutes h) t) t (finalTrades h)) (onClose [] (finalTrades h) c) c

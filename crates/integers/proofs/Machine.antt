@@ -4,7 +4,7 @@
 --     quot-fits, rem-fits    neither wraps where the divisor is positive
 --     complement             `!x` of a negative number is its size less one
 --     below-zero             what a test `x < 0` shows
---     as-unsigned            what a cast to an unsigned type asks
+--     as-unsigned            what a cast to an unsigned type requires
 --     read-back              a number is what its bits are read as
 --     positive               a number above 0 that was cast to a signed type is above 0
 -- Assumes nothing.

@@ -23,7 +23,7 @@ use Rattle.integers.proofs.Ring.{ring, _⊖_, _⊗_}
 
 -- ---- over ℕ
 
--- what a rule asks of the n that a tie goes to: for Away that n × d is past a
+-- what a rule requires of the n that a tie goes to: for Away that n × d is past a
 abbrev Picked : Tie → ℕ → ℕ → ℕ → Type 0
 Picked Even a d n = n % 2 ≡ 0
 Picked Away a d n = a < n * d

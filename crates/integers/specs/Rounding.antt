@@ -25,7 +25,7 @@ nearest tie a d = cond (ltb (2 * (a % d)) d) (a / d) (cond (ltb d (2 * (a % d)))
 abbrev pub rounded : Tie → ℤ → ℕ → ℤ
 rounded tie x d = withSignOf x (nearest tie (natAbs x) d)
 
--- document 01's half-even: "the nearest whole number, a tie going to the even one, alike for negative values"
+-- 01: half-even is "the nearest whole number, a tie going to the even one, alike for negative values"
 abbrev pub halfEven : ℤ → ℕ → ℤ
 halfEven x d = rounded Even x d
 
@@ -35,7 +35,7 @@ halfEven x d = rounded Even x d
 abbrev pub distance : ℤ → ℕ → ℤ → ℕ
 distance x d q = natAbs (x -ℤ q *ℤ pos d)
 
--- what each rule asks of the q that a tie goes to
+-- what each rule requires of the q that a tie goes to
 abbrev pub Chosen : Tie → ℤ → ℕ → ℤ → Type 0
 Chosen Even x d q = natAbs q % 2 ≡ 0
 Chosen Away x d q = natAbs x < natAbs (q *ℤ pos d)

@@ -5,10 +5,8 @@ use Prim.Native.Nat.{ℕ}
 use lib.Dec.{leb, ltb}
 use lib.IntN.{ℤ}
 use Rattle.integers.specs.Size.{within}
-use Rattle.day.specs.declared.trade.Trade.{Trade}
-use Rattle.day.specs.declared.call.Call.{Call}
+use Rattle.day.specs.Types.{Trade, Call, Figures}
 use Rattle.day.specs.declared.call.Call.the-variants as call
-use Rattle.day.specs.declared.figures.Figures.{Figures}
 use Rattle.day.specs.Calls.{onTrade}
 use Rattle.day.specs.Refusals.{Accounts, noAccounts, sentences, firstMet}
 use Rattle.ledger.specs.declared.Book.{Book}
@@ -41,6 +39,6 @@ tradeRefusal n f position volume t = firstMet (sentences f (call.Trade t) (accou
 abbrev pub sentencesOf : ℕ → Book → Call → List (ℕ × Bool)
 sentencesOf n b c = sentences (b .figures) c (onTrade (accountsOf n (b .position) (b .volume)) noAccounts c)
 
--- the number of any call's refusal: 2, "The book holds a number beyond its limits", comes first
+-- 2: "The book holds a number beyond its limits". The number of any call's refusal: that one comes first
 unfoldable pub refusal : ℕ → Book → Call → ℕ
 refusal n b c = firstMet ((2, not (withinLimits n b)) ∷ sentencesOf n b c)

@@ -4,7 +4,7 @@ use mir.Syntax.{w64}
 use mir.Val.{SFits}
 use mir.Facts.{toZ-ofZ}
 use borrow.Author.Needs.{needs}
-use Rattle.day.specs.declared.outcome.Fixing.{Fixing}
+use Rattle.day.specs.Types.{Fixing}
 use Rattle.day.specs.Effects.{figuresAfter, fixingOf}
 use Rattle.day.specs.declared.call.Call.the-variants as call
 use Rattle.day.proofs.Outcomes.{refused-is, accepted-is}

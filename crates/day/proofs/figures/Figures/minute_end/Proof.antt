@@ -12,7 +12,7 @@ use Rattle.funding.specs.Minute.{withinSpread}
 use Rattle.funding.specs.Price.{isPresent, noneOrPrice}
 use Rattle.day.specs.Day.{dayLength, termsOn, twoSided, isFixed, isValid}
 use Rattle.day.specs.Refusals.{isFull, dayForbids, noAccounts}
-use Rattle.day.specs.declared.figures.Figures.{Figures}
+use Rattle.day.specs.Types.{Figures}
 use Rattle.day.specs.Effects.{figuresAfter, fixingOf}
 use Rattle.day.specs.declared.call.Call.the-variants as call
 use Rattle.day.proofs.Outcomes.{refused-is, accepted-is}
