@@ -4,7 +4,9 @@ use mathlib.Core.List.{List}
 use mathlib.Core.Bool.{Bool, cond, _&&_}
 use lib.ListN.{length, getD}
 use lib.Dec.{ltb, leb, eqb}
-use Rattle.day.specs.Types.{Market, Trade, Call}
+use Rattle.day.specs.declared.market.Market.{Market}
+use Rattle.day.specs.declared.trade.Trade.{Trade}
+use Rattle.day.specs.declared.call.Call.{Call}
 use Rattle.day.specs.declared.call.Call.the-variants as call
 use Rattle.dayfile.specs.declared.Tag.{Tag}
 use Rattle.dayfile.specs.declared.Tag.the-variants as tag

@@ -9,7 +9,7 @@ use borrow.Author.Tests.{eqb-true, not-false}
 use Rattle.integers.specs.Lists.{Every}
 use Rattle.integers.proofs.Tests.{both-false}
 use Rattle.funding.specs.Price.{isPresent}
-use Rattle.day.specs.Types.{Call}
+use Rattle.day.specs.declared.call.Call.{Call}
 use Rattle.day.specs.declared.call.Call.the-variants as call
 use Rattle.day.specs.Calls.{onFix, onClose}
 use Rattle.day.specs.Effects.{fixPrice}

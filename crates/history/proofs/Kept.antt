@@ -11,7 +11,10 @@ use lib.ListN.{length, replicate}
 use Rattle.integers.specs.Lists.{keepIf, sumCount, sum}
 use Rattle.integers.proofs.Ring.{ring, _⊕_, _⊖_, _⊗_, ⊝_, num}
 use Rattle.funding.specs.Minute.{weightedSum}
-use Rattle.day.specs.Types.{Trade, Call, Day, Figures}
+use Rattle.day.specs.declared.trade.Trade.{Trade}
+use Rattle.day.specs.declared.call.Call.{Call}
+use Rattle.day.specs.declared.Day.{Day}
+use Rattle.day.specs.declared.figures.Figures.{Figures}
 use Rattle.day.specs.declared.call.Call.the-variants as call
 use Rattle.day.specs.Day.{emptyDay, isFinal, minuteOf}
 use Rattle.day.specs.Effects.{traded, minuteEnded, figuresAfter}

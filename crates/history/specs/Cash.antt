@@ -4,7 +4,7 @@ use Prim.Native.Nat.{ℕ}
 use lib.Dec.{eqb}
 use lib.IntN.{ℤ, pos, negℤ, _+ℤ_, _-ℤ_, _*ℤ_}
 use Rattle.integers.specs.Lists.{sum}
-use Rattle.day.specs.Types.{Trade}
+use Rattle.day.specs.declared.trade.Trade.{Trade}
 use Rattle.history.specs.History.{History, closings, closedPart, trades}
 use Rattle.history.specs.Settlements.{lastPrice, amountOn}
 

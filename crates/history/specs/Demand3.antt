@@ -12,7 +12,7 @@ use Prim.Native.Nat.{ℕ, _<_}
 use lib.IntN.{ℤ, pos}
 use lib.ListN.{length}
 use Rattle.integers.specs.Lists.{Every, sum}
-use Rattle.day.specs.Types.{Call}
+use Rattle.day.specs.declared.call.Call.{Call}
 use Rattle.day.specs.declared.call.Call.the-variants as call
 use Rattle.ledger.specs.declared.Book.{Book}
 use Rattle.ledger.specs.Columns.{entry}

@@ -10,7 +10,9 @@ use Rattle.integers.specs.Lists.{keepIf}
 use Rattle.funding.specs.declared.Terms.{Terms}
 use Rattle.funding.specs.Terms.{standardTerms}
 use Rattle.funding.specs.Minute.{Minute, mostMinutes}
-use Rattle.day.specs.Types.{Market, Trade, Call}
+use Rattle.day.specs.declared.market.Market.{Market}
+use Rattle.day.specs.declared.trade.Trade.{Trade}
+use Rattle.day.specs.declared.call.Call.{Call}
 use Rattle.day.specs.Calls.{onQuote, onTrade, onHalt, onResume, onMinuteEnd, onFix, onClose}
 use Rattle.day.specs.Day.{noMarket, asMinute, isFinal, isValid, minuteOf}
 

@@ -10,7 +10,7 @@ use Rattle.funding.specs.declared.FinalMinute.{FinalMinute}
 use Rattle.funding.specs.declared.Previous.{Previous}
 use Rattle.funding.specs.Minute.{weightedSum}
 use Rattle.funding.specs.Fixing.{rateOf, clampedTo, amountOf, settlementPrice}
-use Rattle.day.specs.Types.{Trade}
+use Rattle.day.specs.declared.trade.Trade.{Trade}
 use Rattle.day.specs.Day.{inLastMinute}
 use Rattle.history.specs.History.{History, Moment, lengthOf, termsOf, tieOf, closings, minuteEnds, fixes, validMinutes, finalTrades}
 

@@ -6,7 +6,7 @@ use Prim.Native.Nat.{ℕ, _<_}
 use lib.Dec.{eqb}
 use lib.IntN.{ℤ, pos}
 use lib.ListN.{length}
-use Rattle.day.specs.Types.{Call}
+use Rattle.day.specs.declared.call.Call.{Call}
 use Rattle.ledger.specs.declared.Book.{Book}
 use Rattle.ledger.specs.Columns.{accounts, entry}
 use Rattle.ledger.specs.Opening.{opening}

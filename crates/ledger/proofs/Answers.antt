@@ -5,7 +5,8 @@
 use mathlib.Core.Path.{_≡_, _∙_, ap}
 use Prim.Native.Nat.{ℕ}
 use borrow.Author.Tests.{ne-eqb}
-use Rattle.day.specs.Types.{Call, Outcome}
+use Rattle.day.specs.declared.call.Call.{Call}
+use Rattle.day.specs.declared.outcome.Outcome.{Outcome}
 use Rattle.day.specs.Effects.{fixingOf}
 use Rattle.day.specs.Outcome.{numbered}
 use Rattle.ledger.specs.declared.Book.{Book}

@@ -12,7 +12,8 @@ use native.Mathlib.Omega.{arith}
 use lib.ListN.{length-set, length-replicate}
 use borrow.Author.Tests.{eqb-true}
 use Rattle.integers.proofs.Tests.{by-test}
-use Rattle.day.specs.Types.{Call, Figures}
+use Rattle.day.specs.declared.call.Call.{Call}
+use Rattle.day.specs.declared.figures.Figures.{Figures}
 use Rattle.day.specs.declared.call.Call.the-variants as call
 use Rattle.day.specs.Effects.{figuresAfter}
 use Rattle.day.specs.Opening.{isSize}

@@ -10,7 +10,7 @@ use lib.ListN.{replicate, getD-replicate}
 use Rattle.integers.proofs.Order.{abs-add, abs-sub, abs-mul-le}
 use Rattle.funding.specs.Price.{largestPrice}
 use Rattle.funding.proofs.Prices.{price-most}
-use Rattle.day.specs.Types.{Figures}
+use Rattle.day.specs.declared.figures.Figures.{Figures}
 use Rattle.day.specs.Day.{noTrades}
 use Rattle.day.specs.Opening.{isSize}
 use Rattle.day.specs.Limits.{mostAmount}

@@ -16,7 +16,8 @@ use Rattle.integers.specs.Size.{within}
 use Rattle.integers.proofs.Order.{abs-neg, abs-add}
 use Rattle.integers.proofs.Tests.{tests, by-test, each}
 use Rattle.funding.specs.Price.{largestPrice}
-use Rattle.day.specs.Types.{Trade, Figures}
+use Rattle.day.specs.declared.trade.Trade.{Trade}
+use Rattle.day.specs.declared.figures.Figures.{Figures}
 use Rattle.day.specs.declared.call.Call.the-variants as call
 use Rattle.day.specs.Day.{dayLength, isFinal, withTrade}
 use Rattle.day.specs.Effects.{figuresAfter}

@@ -12,7 +12,10 @@ use lib.Dec.{eqb}
 use lib.IntN.{ℤ, natAbs}
 use lib.ListN.{length}
 use Rattle.funding.specs.Price.{largestPrice}
-use Rattle.day.specs.Types.{Trade, Call, Figures, Outcome}
+use Rattle.day.specs.declared.trade.Trade.{Trade}
+use Rattle.day.specs.declared.call.Call.{Call}
+use Rattle.day.specs.declared.figures.Figures.{Figures}
+use Rattle.day.specs.declared.outcome.Outcome.{Outcome}
 use Rattle.day.specs.Effects.{figuresAfter}
 use Rattle.day.specs.Refusals.{firstMet, figuresRefusal}
 use Rattle.day.specs.Outcome.{outcome}

@@ -9,7 +9,9 @@ use mathlib.Core.List.{[], _∷_}
 use Prim.Native.Nat.{ℕ}
 use lib.Dec.{eqb}
 use borrow.Author.Tests.{not-false}
-use Rattle.day.specs.Types.{Trade, Call, Figures}
+use Rattle.day.specs.declared.trade.Trade.{Trade}
+use Rattle.day.specs.declared.call.Call.{Call}
+use Rattle.day.specs.declared.figures.Figures.{Figures}
 use Rattle.day.specs.declared.call.Call.the-variants as call
 use Rattle.day.specs.Calls.{onTrade}
 use Rattle.day.specs.Refusals.{notAllowed, haltForbids, tradeOutside, Accounts, noAccounts, sentences, firstMet, figuresRefusal}

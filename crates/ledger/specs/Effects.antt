@@ -3,7 +3,9 @@ use mathlib.Core.List.{List}
 use Prim.Native.Nat.{ℕ, _*_}
 use lib.IntN.{ℤ, pos, negℤ, _+ℤ_, _-ℤ_, _*ℤ_}
 use lib.ListN.{replicate}
-use Rattle.day.specs.Types.{Trade, Call, Figures}
+use Rattle.day.specs.declared.trade.Trade.{Trade}
+use Rattle.day.specs.declared.call.Call.{Call}
+use Rattle.day.specs.declared.figures.Figures.{Figures}
 use Rattle.day.specs.Calls.{onTrade, onClose}
 use Rattle.day.specs.Effects.{figuresAfter}
 use Rattle.ledger.specs.declared.Book.{Book}

@@ -7,7 +7,10 @@ use Prim.Native.Nat.{ℕ, _+_, _*_, _<_, _≤_, _^_}
 use lib.IntN.{ℤ, natAbs}
 use lib.ListN.{length}
 use Rattle.funding.specs.Price.{largestPrice}
-use Rattle.day.specs.Types.{Trade, Call, Figures, Outcome}
+use Rattle.day.specs.declared.trade.Trade.{Trade}
+use Rattle.day.specs.declared.call.Call.{Call}
+use Rattle.day.specs.declared.figures.Figures.{Figures}
+use Rattle.day.specs.declared.outcome.Outcome.{Outcome}
 use Rattle.day.specs.declared.call.Call.the-variants as call
 use Rattle.day.specs.Limits.{mostDays, figuresHold}
 use Rattle.day.specs.Refusals.{mostQuantity, firstMet}

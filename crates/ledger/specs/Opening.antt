@@ -2,7 +2,7 @@
 use Prim.Native.Nat.{ℕ}
 use lib.IntN.{pos}
 use lib.ListN.{replicate}
-use Rattle.day.specs.Types.{Figures}
+use Rattle.day.specs.declared.figures.Figures.{Figures}
 use Rattle.day.specs.Opening.{freshFigures, opened}
 use Rattle.ledger.specs.declared.Book.{Book}
 use Rattle.ledger.specs.declared.Answer.{Answer}

@@ -5,7 +5,9 @@ use Prim.Native.Nat.{ℕ}
 use lib.Dec.{leb, ltb}
 use lib.IntN.{ℤ}
 use Rattle.integers.specs.Size.{within}
-use Rattle.day.specs.Types.{Trade, Call, Figures}
+use Rattle.day.specs.declared.trade.Trade.{Trade}
+use Rattle.day.specs.declared.call.Call.{Call}
+use Rattle.day.specs.declared.figures.Figures.{Figures}
 use Rattle.day.specs.declared.call.Call.the-variants as call
 use Rattle.day.specs.Calls.{onTrade}
 use Rattle.day.specs.Refusals.{Accounts, noAccounts, sentences, firstMet}

@@ -4,7 +4,7 @@ use mathlib.Core.List.{List, [], _∷_}
 use Prim.Native.Nat.{ℕ}
 use lib.Dec.{eqb}
 use Rattle.integers.specs.Lists.{keepIf}
-use Rattle.day.specs.Types.{Call}
+use Rattle.day.specs.declared.call.Call.{Call}
 use Rattle.day.specs.Effects.{noFixing, fixingOf}
 use Rattle.ledger.specs.declared.Book.{Book}
 use Rattle.ledger.specs.declared.Answer.{Answer}

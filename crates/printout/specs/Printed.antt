@@ -3,7 +3,7 @@ use mathlib.Core.Bool.{Bool, not, cond, _||_}
 use Prim.Native.Nat.{ℕ, _+_}
 use lib.Dec.{eqb}
 use lib.IntN.{ℤ, natAbs}
-use Rattle.day.specs.Types.{Call}
+use Rattle.day.specs.declared.call.Call.{Call}
 use Rattle.day.specs.Calls.{onFix, onClose}
 use Rattle.ledger.specs.declared.Book.{Book}
 use Rattle.ledger.specs.declared.Answer.{Answer}

@@ -11,7 +11,7 @@ use Rattle.dayfile.proofs.Reading.{record-at, known-at}
 use Rattle.dayfile.specs.declared.Tag.the-variants as tag
 use Rattle.dayfile.specs.Record.{fourBytes, isRecordAt}
 use Rattle.ledger.specs.declared.Book.{Book}
-use Rattle.day.specs.Types.{Call}
+use Rattle.day.specs.declared.call.Call.{Call}
 use Rattle.day.specs.declared.call.Call.the-variants as call
 use Rattle.ledger.specs.Columns.{accounts}
 use Rattle.ledger.specs.Effects.{effect}
