@@ -1,20 +1,21 @@
 // One call, or one row of calls, on a book, printed with its answer.
-use crate::books::opened;
+use crate::calls::CLOSE;
 use crate::calls::made;
-use crate::calls::print_call;
-use crate::calls::quote;
-use crate::calls::trade;
-use crate::changes::print_changes;
-use crate::changes::same_book;
-use crate::print::end_line;
+use crate::changes::changes;
+use crate::numbers::Numbers;
+use crate::numbers::numbers_of;
+use crate::numbers::of_signed;
 use crate::print::named;
-use crate::print::named_signed;
+use crate::print::signed;
 use crate::print::text;
+use crate::words::name_at;
+use day::outcome::Fixing;
 use ledger::ACCOUNTS;
-use ledger::Answer;
 use ledger::Book;
-use ledger::Call;
-use ledger::Fixing;
+
+// The calls of a row, in their order.
+const ROW: [u8; 108] =
+    *b"quote 200100/200300|trade 1 2 kind 0 quantity 1 price 200200|halt|resume|minute end 200000|fix 200200|close|";
 
 fn print_fixing(fixing: Fixing) {
     let none = (fixing.price == 0)
@@ -25,57 +26,50 @@ fn print_fixing(fixing: Fixing) {
         return;
     }
     named(b", price ", fixing.price as u64);
-    named_signed(b" rate ", fixing.rate);
-    named_signed(b" amount ", fixing.amount);
+    text(b" rate ");
+    signed(of_signed(fixing.rate));
+    text(b" amount ");
+    signed(of_signed(fixing.amount));
     named(b" valid ", fixing.valid as u64);
 }
 
-fn print_same(same: bool) {
-    if same {
-        text(b", same book");
-    } else {
+// Whether the book is another one.
+fn print_changed(changed: bool) {
+    if changed {
         text(b", BOOK CHANGED");
+    } else {
+        text(b", same book");
     }
 }
 
-// The answer's number, its fixing, and what it changed in the book.
-pub fn print_answer(before: Book, answer: Answer) {
-    let after = answer.book;
-    let fixing = answer.fixing;
-    if answer.code == 0 {
+pub fn print_code(code: u8) {
+    if code == 0 {
         text(b": accepted");
     } else {
-        named(b": refused ", answer.code as u64);
-        print_same(same_book(before, after));
+        named(b": refused ", code as u64);
+    }
+}
+
+// Makes the call, prints its number, its fixing and what it changed in the book, and hands the book back.
+pub fn turn(book: Book, call: usize, n: Numbers) -> Book {
+    let answer = made(book, call, n);
+    let after = answer.book;
+    let fixing = answer.fixing;
+    print_code(answer.code);
+    if answer.code != 0 {
+        print_changed(changes(book, after, false));
     }
     print_fixing(fixing);
-    print_changes(before, after);
-    end_line();
+    changes(book, after, true);
+    after
 }
 
-// Makes the call, prints its line and hands the book back.
-pub fn turn(book: Book, call: Call) -> Book {
-    print_call(call);
-    let answer = made(book, call);
-    print_answer(book, answer);
-    answer.book
-}
-
-// The call on an opened book.
-pub fn on_opened(call: Call) {
-    turn(opened(), call);
-}
-
-// Makes the call, prints its number, and answers whether a refusal left the book the same.
-fn entry(book: Book, call: Call) -> bool {
-    let answer = made(book, call);
-    named(b" ", answer.code as u64);
+// Makes a call of a row, prints its number, and answers whether a refusal changed the book.
+fn entry(book: Book, call: usize) -> bool {
+    let answer = made(book, call, numbers_of(name_at(&ROW, call)));
     let after = answer.book;
-    if answer.code == 0 {
-        true
-    } else {
-        same_book(book, after)
-    }
+    named(b" ", answer.code as u64);
+    (answer.code != 0) & changes(book, after, false)
 }
 
 fn report_entry(book: Book) {
@@ -88,46 +82,25 @@ fn report_entry(book: Book) {
 // the refused ones hand the same book back.
 pub fn row(book: Book) {
     text(b":");
-    let mut same = entry(book, quote(200_100, 200_300));
-    same = same & entry(book, trade(1, 2, 0, 1, 200_200));
-    same = same & entry(book, Call::Halt);
-    same = same & entry(book, Call::Resume);
-    same = same & entry(book, Call::MinuteEnd(200_000));
-    same = same & entry(book, Call::Fix(200_200));
-    same = same & entry(book, Call::Close);
+    let mut changed = false;
+    let mut call: usize = 0;
+    while call <= CLOSE {
+        changed = entry(book, call) | changed;
+        call += 1;
+    }
     report_entry(book);
-    print_same(same);
-    end_line();
+    print_changed(changed);
 }
 
-pub fn named_row(name: &[u8], n: u64, book: Book) {
-    named(name, n);
-    row(book);
-}
-
-pub fn signed_row(name: &[u8], x: i64, book: Book) {
-    named_signed(name, x);
-    row(book);
-}
-
-fn end_minutes(book: Book, count: u32, index: u32) -> Book {
+// Ends many minutes with one index, and prints what they changed.
+pub fn minute_ends(book: Book, index: u32, count: u64) -> Book {
     let mut after = book;
-    let mut i: u32 = 0;
+    let mut i: u64 = 0;
     while i < count {
         let answer = after.minute_end(index);
         after = answer.book;
         i += 1;
     }
-    after
-}
-
-// Ends many minutes with one index, and prints what they changed.
-pub fn minutes(book: Book, count: u32, index: u32) -> Book {
-    let after = end_minutes(book, count, index);
-    named(b"minute ends of ", index as u64);
-    named(b", ", count as u64);
-    text(b" times");
-    print_changes(book, after);
-    end_line();
+    changes(book, after, true);
     after
 }

@@ -1,0 +1,55 @@
+-- `ledger_test::making::made_book` is safe and ends: the places left fall. Assumes nothing.
+use borrow.Author.Needs.{needs}
+use Prim.Native.Nat.{_-_}
+use lib.ListN.{length}
+use Rattle.ledger_test.proofs.making.made_book.Statement.{statement}
+use Rattle.ledger_test.proofs.making.made_book.Tie as tie
+
+abbrev Inv-loop : tie.InvT-loop
+Inv-loop list case making₀ place₀ making place = Unit {0}
+
+abbrev μ-loop : tie.MeasureT-loop
+μ-loop list case making₀ place₀ making place = length list - place
+
+returns : tie.Need-returns Inv-loop μ-loop
+returns c = search needs
+
+empty-requires : tie.Need-empty-requires Inv-loop μ-loop
+empty-requires c κs = search needs
+
+loop-holds : tie.Need-loop-holds Inv-loop μ-loop
+loop-holds c = search needs
+
+name-at-requires : tie.Need-name-at-requires Inv-loop μ-loop
+name-at-requires c κs = search needs
+
+with-item-requires : tie.Need-with-item-requires Inv-loop μ-loop
+with-item-requires c κs = search needs
+
+add-place : tie.Need-add-place Inv-loop μ-loop
+add-place c = search needs
+
+loop-less : tie.Need-loop-less Inv-loop μ-loop
+loop-less c = search needs
+
+loop-again : tie.Need-loop-again Inv-loop μ-loop
+loop-again c = search needs
+
+returns-2 : tie.Need-returns-2 Inv-loop μ-loop
+returns-2 c = search needs
+
+pub made-book-spec : {M : Type 1} → statement M
+made-book-spec =
+    tie.close
+    (tie.spec
+    Inv-loop
+    μ-loop
+    returns
+    empty-requires
+    loop-holds
+    name-at-requires
+    with-item-requires
+    add-place
+    loop-less
+    loop-again
+    returns-2)

@@ -1,0 +1,71 @@
+-- `ledger_test::reports::print_list` is safe and ends: the entries left fall. Assumes nothing.
+use borrow.Author.Needs.{needs}
+use Prim.Native.Nat.{_-_}
+use lib.ListN.{length}
+use Rattle.ledger_test.proofs.reports.print_list.Statement.{statement}
+use Rattle.ledger_test.proofs.reports.print_list.Tie as tie
+
+abbrev Inv-loop : tie.InvT-loop
+Inv-loop name list i₀ i = Unit {0}
+
+abbrev μ-loop : tie.MeasureT-loop
+μ-loop name list i₀ i = length list - i
+
+text-requires : tie.Need-text-requires Inv-loop μ-loop
+text-requires c κs = search needs
+
+is-unchanged-requires : tie.Need-is-unchanged-requires Inv-loop μ-loop
+is-unchanged-requires c κs = search needs
+
+slice-aggregate-text : tie.Need-slice-aggregate-text Inv-loop μ-loop
+slice-aggregate-text c = search needs
+
+text-requires-2 : tie.Need-text-requires-2 Inv-loop μ-loop
+text-requires-2 c κs = search needs
+
+returns : tie.Need-returns Inv-loop μ-loop
+returns c = search needs
+
+loop-holds : tie.Need-loop-holds Inv-loop μ-loop
+loop-holds c = search needs
+
+mul-print-entry : tie.Need-mul-print-entry Inv-loop μ-loop
+mul-print-entry c = search needs
+
+shared-slice-copy-out-print-entry : tie.Need-shared-slice-copy-out-print-entry Inv-loop μ-loop
+shared-slice-copy-out-print-entry c = search needs
+
+print-entry-requires : tie.Need-print-entry-requires Inv-loop μ-loop
+print-entry-requires c κs = search needs
+
+add-i : tie.Need-add-i Inv-loop μ-loop
+add-i c = search needs
+
+loop-less : tie.Need-loop-less Inv-loop μ-loop
+loop-less c = search needs
+
+loop-again : tie.Need-loop-again Inv-loop μ-loop
+loop-again c = search needs
+
+returns-2 : tie.Need-returns-2 Inv-loop μ-loop
+returns-2 c = search needs
+
+pub print-list-spec : {M : Type 1} → statement M
+print-list-spec =
+    tie.close
+    (tie.spec
+    Inv-loop
+    μ-loop
+    text-requires
+    is-unchanged-requires
+    slice-aggregate-text
+    text-requires-2
+    returns
+    loop-holds
+    mul-print-entry
+    shared-slice-copy-out-print-entry
+    print-entry-requires
+    add-i
+    loop-less
+    loop-again
+    returns-2)
