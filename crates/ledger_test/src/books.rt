@@ -4,6 +4,7 @@ use crate::fields::CASH;
 use crate::fields::CLOSED;
 use crate::fields::CONTRACTS;
 use crate::fields::COST;
+use crate::fields::FIGURES;
 use crate::fields::FIXED_AMOUNT;
 use crate::fields::FIXED_PRICE;
 use crate::fields::GROSS;
@@ -66,14 +67,20 @@ fn figure(figures: Figures, field: usize) -> u64 {
 // A figure, or an entry of an account.
 pub fn value(book: Book, account: usize, field: usize) -> u64 {
     let i = account % ACCOUNTS;
-    match field {
-        OPENING => of_signed(book.opening[i]),
-        POSITION => of_signed(book.position[i]),
-        COST => of_signed(book.cost[i]),
-        VOLUME => book.volume[i] as u64,
-        CASH => of_signed(book.cash[i]),
-        _ => figure(book.figures, field),
+    if field < FIGURES {
+        return figure(book.figures, field);
     }
+    if field == VOLUME {
+        return book.volume[i] as u64;
+    }
+    of_signed(
+        match field {
+            OPENING => book.opening[i],
+            POSITION => book.position[i],
+            COST => book.cost[i],
+            _ => book.cash[i],
+        },
+    )
 }
 
 fn with_market(mut markets: Markets, field: usize, n: u64) -> Markets {

@@ -1,34 +1,32 @@
-// The calls, by name. A name's place in the list is its call's number: first those that have an answer.
+// The calls, by number, which is the place of the name among the words: first those that have an answer.
+use crate::fields::FIELDS;
 use crate::numbers::HALF;
 use crate::numbers::Numbers;
 use day::trade::Trade;
 use ledger::Answer;
 use ledger::Book;
 
-pub const NAMES: [u8; 87] =
-    *b"quote|trade|halt|resume|minute end|fix|close|opening|minute ends of|report to|products|";
+pub const QUOTE: usize = FIELDS;
 
-pub const QUOTE: usize = 0;
+pub const TRADE: usize = FIELDS + 1;
 
-pub const TRADE: usize = 1;
+pub const HALT: usize = FIELDS + 2;
 
-pub const HALT: usize = 2;
+pub const RESUME: usize = FIELDS + 3;
 
-pub const RESUME: usize = 3;
+pub const MINUTE_END: usize = FIELDS + 4;
 
-pub const MINUTE_END: usize = 4;
+pub const FIX: usize = FIELDS + 5;
 
-pub const FIX: usize = 5;
+pub const CLOSE: usize = FIELDS + 6;
 
-pub const CLOSE: usize = 6;
+pub const OPENING: usize = FIELDS + 7;
 
-pub const OPENING: usize = 7;
+pub const MINUTE_ENDS: usize = FIELDS + 8;
 
-pub const MINUTE_ENDS: usize = 8;
+pub const REPORT: usize = FIELDS + 9;
 
-pub const REPORT: usize = 9;
-
-pub const PRODUCTS: usize = 10;
+pub const PRODUCTS: usize = FIELDS + 10;
 
 fn trade_of(n: Numbers) -> Trade {
     Trade {

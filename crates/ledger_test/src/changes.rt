@@ -5,20 +5,22 @@ use crate::fields::FIGURES;
 use crate::fields::HALTED;
 use crate::fields::MARKET;
 use crate::fields::MINUTE;
-use crate::fields::NAMES;
 use crate::numbers::HALF;
-use crate::print::named;
+use crate::numbers::print_signed;
 use crate::print::number;
-use crate::print::signed;
-use crate::print::text;
-use crate::words::name_at;
+use crate::words::BLANK;
+use crate::words::NEXT;
+use crate::words::NEXT_ACCOUNT;
+use crate::words::NOT;
+use crate::words::SLASH;
+use crate::words::print_after;
+use crate::words::print_word;
 use ledger::ACCOUNTS;
 use ledger::Book;
 
 // A book's numbers: its figures, then the entries of each account.
 const NUMBERS: usize = FIGURES + ENTRIES * ACCOUNTS;
 
-// The field of one of a book's numbers.
 fn field_of(i: usize) -> usize {
     if i < FIGURES {
         i
@@ -27,6 +29,7 @@ fn field_of(i: usize) -> usize {
     }
 }
 
+// The account of a number; ACCOUNTS where it is a figure or there is no such number.
 fn account_of(i: usize) -> usize {
     if i < FIGURES {
         ACCOUNTS
@@ -35,31 +38,22 @@ fn account_of(i: usize) -> usize {
     }
 }
 
-fn print_number(field: usize, n: u64) {
-    match field {
-        MARKET | MINUTE => {
-            number(n / HALF);
-            named(b"/", n % HALF);
-        }
-        _ => signed(n),
-    }
-}
-
-fn print_halt(n: u64) {
-    if n == 0 {
-        text(b"not ");
-    }
-    text(b"halted");
-}
-
 // A field's name and its number.
 fn print_field(field: usize, n: u64) {
-    if field == HALTED {
-        print_halt(n);
-    } else {
-        text(name_at(&NAMES, field));
-        text(b" ");
-        print_number(field, n);
+    if (field == HALTED) & (n == 0) {
+        print_word(NOT);
+    }
+    print_word(field);
+    match field {
+        HALTED => {}
+        MARKET | MINUTE => {
+            print_after(BLANK, n / HALF);
+            print_after(SLASH, n % HALF);
+        }
+        _ => {
+            print_word(BLANK);
+            print_signed(n);
+        }
     }
 }
 
@@ -67,12 +61,12 @@ fn print_field(field: usize, n: u64) {
 fn print_start(i: usize, last: usize) {
     let account = account_of(i);
     if account == ACCOUNTS {
-        text(b"; ");
+        print_word(NEXT);
     } else {
         if account != account_of(last) {
-            named(b"; account ", account as u64);
+            print_after(NEXT_ACCOUNT, account as u64);
         }
-        text(b" ");
+        print_word(BLANK);
     }
 }
 

@@ -1,7 +1,5 @@
-// What a book holds, by name. A name's place in the list is its field's number: first the figures, then the entries of an
+// What a book holds, by number, which is the place of its name among the words: first the figures, then the entries of an
 // account, in the order in which changes are printed; last the names that only lists of fields have.
-pub const NAMES: [u8; 204] =
-    *b"size|closed days|halted|previous price|previous index|minutes|k|S|market|minute's market|last|n|gross|index|fixed price|fixed amount|opening|position|cost|v|cash|account|opened|both markets|valid minutes|";
 
 pub const SIZE: usize = 0;
 
@@ -57,3 +55,5 @@ pub const OPENED: usize = 22;
 pub const BOTH_MARKETS: usize = 23;
 
 pub const VALID_MINUTES: usize = 24;
+
+pub const FIELDS: usize = 25;

@@ -3,59 +3,65 @@
 use crate::books::empty;
 use crate::books::with_value;
 use crate::fields::ACCOUNT;
-use crate::fields::NAMES;
+use crate::fields::FIELDS;
 use crate::fields::OPENED;
-use crate::fields::VALID_MINUTES;
 use crate::numbers::HALF;
 use crate::numbers::Numbers;
 use crate::numbers::numbers_of;
-use crate::print::text;
+use crate::words::NO_FIELD;
+use crate::words::NO_NUMBER;
 use crate::words::find_number;
-use crate::words::name_at;
-use crate::words::place_of;
+use crate::words::print_word;
+use crate::words::word_at;
+use crate::words::word_of;
 use ledger::Book;
 
-struct Making {
-    book: Book,
-    // The account of the entries that follow.
+// One field of a list.
+struct Item {
+    field: usize,
+    number: u64,
+    // The account that the last field of that name gave.
     account: u8,
     // How many numbers of the case are used.
     used: u32,
 }
 
-impl Making {
-    fn with(mut self, field: usize, n: u64) -> Self {
-        match field {
-            ACCOUNT => {
-                self.account = (n % 256) as u8;
+impl Item {
+    fn next(mut self, text: &[u8], case: Numbers) -> Self {
+        let used = self.used;
+        self.field = word_of(text, 0);
+        if find_number(text) < text.len() {
+            let own = numbers_of(text);
+            self.number = own.first;
+        } else {
+            self.number = case.at(used);
+            if used < case.count {
+                self.used = used + 1;
+            } else {
+                print_word(NO_NUMBER);
             }
-            OPENED => {
-                let answer = Book::opening((n % HALF) as u32);
-                let book = answer.book;
-                self.book = book;
-            }
-            0..=VALID_MINUTES => {
-                let book = self.book;
-                self.book = with_value(book, self.account, field, n);
-            }
-            _ => text(b"NO SUCH FIELD: "),
+        }
+        if self.field == ACCOUNT {
+            self.account = (self.number % 256) as u8;
         }
         self
     }
+}
 
-    fn with_item(mut self, item: &[u8], case: Numbers) -> Self {
-        let field = place_of(&NAMES, item);
-        if find_number(item) < item.len() {
-            let own = numbers_of(item);
-            return self.with(field, own.first);
-        }
-        let used = self.used;
-        if used < case.count {
-            self.used = used + 1;
-        } else {
-            text(b"NO NUMBER: ");
-        }
-        self.with(field, case.at(used))
+fn opened(size: u64) -> Book {
+    let answer = Book::opening((size % HALF) as u32);
+    answer.book
+}
+
+fn with_item(book: Book, item: Item) -> Book {
+    let field = item.field;
+    if FIELDS <= field {
+        print_word(NO_FIELD);
+    }
+    match field {
+        ACCOUNT => book,
+        OPENED => opened(item.number),
+        _ => with_value(book, item.account, field, item.number),
     }
 }
 
@@ -65,18 +71,21 @@ pub fn made_book(book: Book, list: &[u8], case: Numbers) -> Book {
     if list.len() == 0 {
         return book;
     }
-    let mut making = Making {
-        book: empty(10),
+    let mut after = empty(10);
+    let mut item = Item {
+        field: 0,
+        number: 0,
         account: 0,
         used: 0,
     };
     let mut place: usize = 1;
     while place < list.len() {
-        let item = name_at(list, place);
-        if item.len() != 0 {
-            making = making.with_item(item, case);
+        let text = word_at(list, place);
+        if text.len() != 0 {
+            item = item.next(text, case);
+            after = with_item(after, item);
         }
         place += 1;
     }
-    making.book
+    after
 }

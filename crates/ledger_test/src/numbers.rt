@@ -1,5 +1,8 @@
 // The numbers of a text. Each is 64 bits: a negative number is what 2^64 leaves of its size, and a market, as 200100/200300,
 // is its bid times 2^32 and its offer.
+use crate::print::number;
+use crate::words::MINUS;
+use crate::words::print_after;
 use std::num::wrapping_add_u64;
 use std::num::wrapping_sub_u64;
 
@@ -35,6 +38,15 @@ pub fn as_signed(n: u64) -> i64 {
         n as i64
     } else {
         !((18_446_744_073_709_551_615 - n) as i64)
+    }
+}
+
+// A number with a sign, which the upper half of the numbers of 64 bits have.
+pub fn print_signed(n: u64) {
+    if n <= 9_223_372_036_854_775_807 {
+        number(n);
+    } else {
+        print_after(MINUS, wrapping_sub_u64(0, n));
     }
 }
 

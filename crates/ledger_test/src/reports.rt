@@ -1,9 +1,14 @@
 // Reports to lists of the right length and of others.
 use crate::numbers::of_signed;
-use crate::print::named;
-use crate::print::signed;
-use crate::print::text;
+use crate::numbers::print_signed;
 use crate::turn::print_code;
+use crate::words::BLANK;
+use crate::words::CASH;
+use crate::words::EQUALS;
+use crate::words::POSITIONS;
+use crate::words::UNCHANGED;
+use crate::words::print_after;
+use crate::words::print_word;
 use ledger::Book;
 
 // What the lists hold before.
@@ -23,17 +28,17 @@ fn is_unchanged(list: &[i64]) -> bool {
 
 fn print_entry(i: usize, entry: i64) {
     if entry != 0 {
-        named(b" ", i as u64);
-        text(b"=");
-        signed(of_signed(entry));
+        print_after(BLANK, i as u64);
+        print_word(EQUALS);
+        print_signed(of_signed(entry));
     }
 }
 
 // Every entry that isn't 0, if any has changed.
-fn print_list(name: &[u8], list: &[i64]) {
-    text(name);
+fn print_list(name: usize, list: &[i64]) {
+    print_word(name);
     if is_unchanged(list) {
-        text(b" unchanged");
+        print_word(UNCHANGED);
         return;
     }
     let mut i: usize = 0;
@@ -45,8 +50,8 @@ fn print_list(name: &[u8], list: &[i64]) {
 
 fn report_to(book: Book, positions: &mut [i64], cash: &mut [i64]) {
     print_code(book.report(positions, cash));
-    print_list(b"; positions", positions);
-    print_list(b"; cash", cash);
+    print_list(POSITIONS, positions);
+    print_list(CASH, cash);
 }
 
 // A report to two lists of these lengths.

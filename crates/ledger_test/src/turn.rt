@@ -1,21 +1,28 @@
 // One call, or one row of calls, on a book, printed with its answer.
 use crate::calls::CLOSE;
+use crate::calls::QUOTE;
 use crate::calls::made;
 use crate::changes::changes;
 use crate::numbers::Numbers;
-use crate::numbers::numbers_of;
 use crate::numbers::of_signed;
-use crate::print::named;
-use crate::print::signed;
-use crate::print::text;
-use crate::words::name_at;
+use crate::numbers::print_signed;
+use crate::words::ACCEPTED;
+use crate::words::AMOUNT;
+use crate::words::BLANK;
+use crate::words::BOOK_CHANGED;
+use crate::words::PRICE;
+use crate::words::RATE;
+use crate::words::REFUSED;
+use crate::words::ROW;
+use crate::words::ROW_CALLS;
+use crate::words::SAME_BOOK;
+use crate::words::VALID;
+use crate::words::numbers_at;
+use crate::words::print_after;
+use crate::words::print_word;
 use day::outcome::Fixing;
 use ledger::ACCOUNTS;
 use ledger::Book;
-
-// The calls of a row, in their order.
-const ROW: [u8; 108] =
-    *b"quote 200100/200300|trade 1 2 kind 0 quantity 1 price 200200|halt|resume|minute end 200000|fix 200200|close|";
 
 fn print_fixing(fixing: Fixing) {
     let none = (fixing.price == 0)
@@ -25,68 +32,65 @@ fn print_fixing(fixing: Fixing) {
     if none {
         return;
     }
-    named(b", price ", fixing.price as u64);
-    text(b" rate ");
-    signed(of_signed(fixing.rate));
-    text(b" amount ");
-    signed(of_signed(fixing.amount));
-    named(b" valid ", fixing.valid as u64);
-}
-
-// Whether the book is another one.
-fn print_changed(changed: bool) {
-    if changed {
-        text(b", BOOK CHANGED");
-    } else {
-        text(b", same book");
-    }
+    print_after(PRICE, fixing.price as u64);
+    print_word(RATE);
+    print_signed(of_signed(fixing.rate));
+    print_word(AMOUNT);
+    print_signed(of_signed(fixing.amount));
+    print_after(VALID, fixing.valid as u64);
 }
 
 pub fn print_code(code: u8) {
     if code == 0 {
-        text(b": accepted");
+        print_word(ACCEPTED);
     } else {
-        named(b": refused ", code as u64);
+        print_after(REFUSED, code as u64);
+    }
+}
+
+// Whether refused calls hand the same book back.
+fn print_changed(changed: bool) {
+    if changed {
+        print_word(BOOK_CHANGED);
+    } else {
+        print_word(SAME_BOOK);
     }
 }
 
 // Makes the call, prints its number, its fixing and what it changed in the book, and hands the book back.
 pub fn turn(book: Book, call: usize, n: Numbers) -> Book {
     let answer = made(book, call, n);
-    let after = answer.book;
-    let fixing = answer.fixing;
     print_code(answer.code);
+    print_fixing(answer.fixing);
+    let changed = changes(book, answer.book, true);
     if answer.code != 0 {
-        print_changed(changes(book, after, false));
+        print_changed(changed);
     }
-    print_fixing(fixing);
-    changes(book, after, true);
-    after
+    answer.book
 }
 
 // Makes a call of a row, prints its number, and answers whether a refusal changed the book.
-fn entry(book: Book, call: usize) -> bool {
-    let answer = made(book, call, numbers_of(name_at(&ROW, call)));
-    let after = answer.book;
-    named(b" ", answer.code as u64);
-    (answer.code != 0) & changes(book, after, false)
+fn entry(book: Book, call: usize, n: Numbers) -> bool {
+    let answer = made(book, call, n);
+    print_after(BLANK, answer.code as u64);
+    (answer.code != 0) & changes(book, answer.book, false)
 }
 
 fn report_entry(book: Book) {
     let mut positions: [i64; ACCOUNTS] = [0; ACCOUNTS];
     let mut cash: [i64; ACCOUNTS] = [0; ACCOUNTS];
-    named(b" ", book.report(&mut positions, &mut cash) as u64);
+    print_after(BLANK, book.report(&mut positions, &mut cash) as u64);
 }
 
 // Prints the numbers that quote, trade, halt, resume, minute end, fix, close and report come to on this book, and whether
 // the refused ones hand the same book back.
 pub fn row(book: Book) {
-    text(b":");
+    print_word(ROW);
     let mut changed = false;
-    let mut call: usize = 0;
-    while call <= CLOSE {
-        changed = entry(book, call) | changed;
-        call += 1;
+    let mut i: usize = 0;
+    while i <= CLOSE - QUOTE {
+        changed = entry(book, QUOTE + i, numbers_at(ROW_CALLS + i)) | changed;
+        i += 1;
     }
     report_entry(book);
     print_changed(changed);

@@ -6,10 +6,10 @@ use Rattle.ledger_test.proofs.making.made_book.Statement.{statement}
 use Rattle.ledger_test.proofs.making.made_book.Tie as tie
 
 abbrev Inv-loop : tie.InvT-loop
-Inv-loop list case making₀ place₀ making place = Unit {0}
+Inv-loop list case after₀ item₀ place₀ after item place = Unit {0}
 
 abbrev μ-loop : tie.MeasureT-loop
-μ-loop list case making₀ place₀ making place = length list - place
+μ-loop list case after₀ item₀ place₀ after item place = length list - place
 
 returns : tie.Need-returns Inv-loop μ-loop
 returns c = search needs
@@ -20,8 +20,11 @@ empty-requires c κs = search needs
 loop-holds : tie.Need-loop-holds Inv-loop μ-loop
 loop-holds c = search needs
 
-name-at-requires : tie.Need-name-at-requires Inv-loop μ-loop
-name-at-requires c κs = search needs
+word-at-requires : tie.Need-word-at-requires Inv-loop μ-loop
+word-at-requires c κs = search needs
+
+next-requires : tie.Need-next-requires Inv-loop μ-loop
+next-requires c κs = search needs
 
 with-item-requires : tie.Need-with-item-requires Inv-loop μ-loop
 with-item-requires c κs = search needs
@@ -47,7 +50,8 @@ made-book-spec =
     returns
     empty-requires
     loop-holds
-    name-at-requires
+    word-at-requires
+    next-requires
     with-item-requires
     add-place
     loop-less

@@ -11,17 +11,14 @@ Inv-loop name list i₀ i = Unit {0}
 abbrev μ-loop : tie.MeasureT-loop
 μ-loop name list i₀ i = length list - i
 
-text-requires : tie.Need-text-requires Inv-loop μ-loop
-text-requires c κs = search needs
+print-word-requires : tie.Need-print-word-requires Inv-loop μ-loop
+print-word-requires c κs = search needs
 
 is-unchanged-requires : tie.Need-is-unchanged-requires Inv-loop μ-loop
 is-unchanged-requires c κs = search needs
 
-slice-aggregate-text : tie.Need-slice-aggregate-text Inv-loop μ-loop
-slice-aggregate-text c = search needs
-
-text-requires-2 : tie.Need-text-requires-2 Inv-loop μ-loop
-text-requires-2 c κs = search needs
+print-word-requires-2 : tie.Need-print-word-requires-2 Inv-loop μ-loop
+print-word-requires-2 c κs = search needs
 
 returns : tie.Need-returns Inv-loop μ-loop
 returns c = search needs
@@ -56,10 +53,9 @@ print-list-spec =
     (tie.spec
     Inv-loop
     μ-loop
-    text-requires
+    print-word-requires
     is-unchanged-requires
-    slice-aggregate-text
-    text-requires-2
+    print-word-requires-2
     returns
     loop-holds
     mul-print-entry

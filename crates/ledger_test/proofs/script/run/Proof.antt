@@ -6,10 +6,10 @@ use Rattle.ledger_test.proofs.script.run.Statement.{statement}
 use Rattle.ledger_test.proofs.script.run.Tie as tie
 
 abbrev Inv-loop : tie.InvT-loop
-Inv-loop script state₀ start₀ i₀ state start i = Unit {0}
+Inv-loop script book₀ list₀ start₀ i₀ book list start i = Unit {0}
 
 abbrev μ-loop : tie.MeasureT-loop
-μ-loop script state₀ start₀ i₀ state start i = length script - i
+μ-loop script book₀ list₀ start₀ i₀ book list start i = length script - i
 
 empty-requires : tie.Need-empty-requires Inv-loop μ-loop
 empty-requires c κs = search needs
@@ -17,23 +17,35 @@ empty-requires c κs = search needs
 loop-holds : tie.Need-loop-holds Inv-loop μ-loop
 loop-holds c = search needs
 
+add-next : tie.Need-add-next Inv-loop μ-loop
+add-next c = search needs
+
 shared-slice-read-if1 : tie.Need-shared-slice-read-if1 Inv-loop μ-loop
 shared-slice-read-if1 c = search needs
+
+part-requires : tie.Need-part-requires Inv-loop μ-loop
+part-requires c κs = search needs
 
 after-requires : tie.Need-after-requires Inv-loop μ-loop
 after-requires c κs = search needs
 
-add-start : tie.Need-add-start Inv-loop μ-loop
-add-start c = search needs
+part-requires-2 : tie.Need-part-requires-2 Inv-loop μ-loop
+part-requires-2 c κs = search needs
 
-add-i : tie.Need-add-i Inv-loop μ-loop
-add-i c = search needs
+played-line-requires : tie.Need-played-line-requires Inv-loop μ-loop
+played-line-requires c κs = search needs
 
 loop-less : tie.Need-loop-less Inv-loop μ-loop
 loop-less c = search needs
 
 loop-again : tie.Need-loop-again Inv-loop μ-loop
 loop-again c = search needs
+
+loop-less-2 : tie.Need-loop-less-2 Inv-loop μ-loop
+loop-less-2 c = search needs
+
+loop-again-2 : tie.Need-loop-again-2 Inv-loop μ-loop
+loop-again-2 c = search needs
 
 returns : tie.Need-returns Inv-loop μ-loop
 returns c = search needs
@@ -46,10 +58,14 @@ run-spec =
     μ-loop
     empty-requires
     loop-holds
+    add-next
     shared-slice-read-if1
+    part-requires
     after-requires
-    add-start
-    add-i
+    part-requires-2
+    played-line-requires
     loop-less
     loop-again
+    loop-less-2
+    loop-again-2
     returns)

@@ -5,25 +5,34 @@ use Rattle.ledger_test.proofs.turn.row.Statement.{statement}
 use Rattle.ledger_test.proofs.turn.row.Tie as tie
 
 abbrev Inv-loop : tie.InvT-loop
-Inv-loop book changed₀ call₀ changed call = Unit {0}
+Inv-loop book changed₀ i₀ changed i = Unit {0}
 
 abbrev μ-loop : tie.MeasureT-loop
-μ-loop book changed₀ call₀ changed call = 7 - call
+μ-loop book changed₀ i₀ changed i = 7 - i
 
-slice-aggregate-text : tie.Need-slice-aggregate-text Inv-loop μ-loop
-slice-aggregate-text c = search needs
-
-text-requires : tie.Need-text-requires Inv-loop μ-loop
-text-requires c κs = search needs
+print-word-requires : tie.Need-print-word-requires Inv-loop μ-loop
+print-word-requires c κs = search needs
 
 loop-holds : tie.Need-loop-holds Inv-loop μ-loop
 loop-holds c = search needs
 
+sub-loop : tie.Need-sub-loop Inv-loop μ-loop
+sub-loop c = search needs
+
+add-entry : tie.Need-add-entry Inv-loop μ-loop
+add-entry c = search needs
+
+add-numbers-at : tie.Need-add-numbers-at Inv-loop μ-loop
+add-numbers-at c = search needs
+
+numbers-at-requires : tie.Need-numbers-at-requires Inv-loop μ-loop
+numbers-at-requires c κs = search needs
+
 entry-requires : tie.Need-entry-requires Inv-loop μ-loop
 entry-requires c κs = search needs
 
-add-call : tie.Need-add-call Inv-loop μ-loop
-add-call c = search needs
+add-i : tie.Need-add-i Inv-loop μ-loop
+add-i c = search needs
 
 loop-less : tie.Need-loop-less Inv-loop μ-loop
 loop-less c = search needs
@@ -46,11 +55,14 @@ row-spec =
     (tie.spec
     Inv-loop
     μ-loop
-    slice-aggregate-text
-    text-requires
+    print-word-requires
     loop-holds
+    sub-loop
+    add-entry
+    add-numbers-at
+    numbers-at-requires
     entry-requires
-    add-call
+    add-i
     loop-less
     loop-again
     report-entry-requires

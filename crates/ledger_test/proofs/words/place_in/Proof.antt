@@ -1,24 +1,21 @@
--- `ledger_test::words::place_of` is safe and ends: the places left fall. Assumes nothing.
+-- `ledger_test::words::place_in` is safe and ends: the places left fall. Assumes nothing.
 use borrow.Author.Needs.{needs}
 use Prim.Native.Nat.{_-_}
 use lib.ListN.{length}
-use Rattle.ledger_test.proofs.words.place_of.Statement.{statement}
-use Rattle.ledger_test.proofs.words.place_of.Tie as tie
+use Rattle.ledger_test.proofs.words.place_in.Statement.{statement}
+use Rattle.ledger_test.proofs.words.place_in.Tie as tie
 
 abbrev Inv-loop : tie.InvT-loop
-Inv-loop names s name place₀ place = Unit {0}
+Inv-loop list first name place₀ place = Unit {0}
 
 abbrev μ-loop : tie.MeasureT-loop
-μ-loop names s name place₀ place = length names - place
-
-name-of-requires : tie.Need-name-of-requires Inv-loop μ-loop
-name-of-requires c κs = search needs
+μ-loop list first name place₀ place = length list - place
 
 loop-holds : tie.Need-loop-holds Inv-loop μ-loop
 loop-holds c = search needs
 
-name-at-requires : tie.Need-name-at-requires Inv-loop μ-loop
-name-at-requires c κs = search needs
+word-at-requires : tie.Need-word-at-requires Inv-loop μ-loop
+word-at-requires c κs = search needs
 
 same-requires : tie.Need-same-requires Inv-loop μ-loop
 same-requires c κs = search needs
@@ -38,15 +35,14 @@ loop-again c = search needs
 returns-2 : tie.Need-returns-2 Inv-loop μ-loop
 returns-2 c = search needs
 
-pub place-of-spec : {M : Type 1} → statement M
-place-of-spec =
+pub place-in-spec : {M : Type 1} → statement M
+place-in-spec =
     tie.close
     (tie.spec
     Inv-loop
     μ-loop
-    name-of-requires
     loop-holds
-    name-at-requires
+    word-at-requires
     same-requires
     returns
     add-place

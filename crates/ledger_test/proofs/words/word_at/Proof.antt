@@ -1,15 +1,15 @@
--- `ledger_test::words::name_at` is safe and ends: the bytes left fall. Assumes nothing.
+-- `ledger_test::words::word_at` is safe and ends: the bytes left fall. Assumes nothing.
 use borrow.Author.Needs.{needs}
 use Prim.Native.Nat.{_-_}
 use lib.ListN.{length}
-use Rattle.ledger_test.proofs.words.name_at.Statement.{statement}
-use Rattle.ledger_test.proofs.words.name_at.Tie as tie
+use Rattle.ledger_test.proofs.words.word_at.Statement.{statement}
+use Rattle.ledger_test.proofs.words.word_at.Tie as tie
 
 abbrev Inv-loop : tie.InvT-loop
-Inv-loop names place left₀ start₀ i₀ left start i = Unit {0}
+Inv-loop list place left₀ start₀ i₀ left start i = Unit {0}
 
 abbrev μ-loop : tie.MeasureT-loop
-μ-loop names place left₀ start₀ i₀ left start i = length names - i
+μ-loop list place left₀ start₀ i₀ left start i = length list - i
 
 loop-holds : tie.Need-loop-holds Inv-loop μ-loop
 loop-holds c = search needs
@@ -44,8 +44,8 @@ part-requires-2 c κs = search needs
 returns-2 : tie.Need-returns-2 Inv-loop μ-loop
 returns-2 c = search needs
 
-pub name-at-spec : {M : Type 1} → statement M
-name-at-spec =
+pub word-at-spec : {M : Type 1} → statement M
+word-at-spec =
     tie.close
     (tie.spec
     Inv-loop
