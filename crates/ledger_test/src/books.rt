@@ -1,10 +1,9 @@
 // The fields of a book, read and written by their numbers.
-use crate::fields::BOTH_MARKETS;
+use crate::fields::ACCOUNT;
 use crate::fields::CASH;
 use crate::fields::CLOSED;
 use crate::fields::CONTRACTS;
 use crate::fields::COST;
-use crate::fields::FIGURES;
 use crate::fields::FIXED_AMOUNT;
 use crate::fields::FIXED_PRICE;
 use crate::fields::GROSS;
@@ -14,6 +13,7 @@ use crate::fields::LAST;
 use crate::fields::MARKET;
 use crate::fields::MINUTE;
 use crate::fields::MINUTES;
+use crate::fields::OPENED;
 use crate::fields::OPENING;
 use crate::fields::POSITION;
 use crate::fields::PREVIOUS_INDEX;
@@ -67,157 +67,87 @@ fn figure(figures: Figures, field: usize) -> u64 {
 // A figure, or an entry of an account.
 pub fn value(book: Book, account: usize, field: usize) -> u64 {
     let i = account % ACCOUNTS;
-    if field < FIGURES {
-        return figure(book.figures, field);
+    match field {
+        OPENING => of_signed(book.opening[i]),
+        POSITION => of_signed(book.position[i]),
+        COST => of_signed(book.cost[i]),
+        VOLUME => book.volume[i] as u64,
+        CASH => of_signed(book.cash[i]),
+        _ => figure(book.figures, field),
     }
-    if field == VOLUME {
-        return book.volume[i] as u64;
-    }
-    of_signed(
-        match field {
-            OPENING => book.opening[i],
-            POSITION => book.position[i],
-            COST => book.cost[i],
-            _ => book.cash[i],
-        },
-    )
 }
 
-fn with_market(mut markets: Markets, field: usize, n: u64) -> Markets {
-    let market = Market {
-        bid: (n / HALF) as u32,
-        offer: (n % HALF) as u32,
-    };
+fn with_signed(mut day: Day, field: usize, x: i64) -> Day {
+    let mut minutes = day.minutes;
+    let mut fixed = day.fixed;
+    if field == WEIGHTED {
+        minutes.weighted = x;
+        day.minutes = minutes;
+    } else {
+        fixed.amount = x;
+        day.fixed = fixed;
+    }
+    day
+}
+
+fn with_market(mut day: Day, field: usize, n: u64) -> Day {
+    let bid = (n / HALF) as u32;
+    let offer = (n % HALF) as u32;
     if field != MINUTE {
-        markets.standing = market;
+        day.markets.standing.bid = bid;
+        day.markets.standing.offer = offer;
     }
     if field != MARKET {
-        markets.minute = market;
-    }
-    markets
-}
-
-fn with_minutes(mut minutes: Minutes, field: usize, n: u64) -> Minutes {
-    let small = (n % HALF) as u32;
-    match field {
-        MINUTES => {
-            minutes.ended = small;
-        }
-        VALID => {
-            minutes.valid = small;
-        }
-        VALID_MINUTES => {
-            minutes.ended = small;
-            minutes.valid = small;
-        }
-        WEIGHTED => {
-            minutes.weighted = as_signed(n);
-        }
-        _ => {
-            minutes.index = small;
-        }
-    }
-    minutes
-}
-
-fn with_trades(mut trades: Trades, field: usize, n: u64) -> Trades {
-    let small = (n % HALF) as u32;
-    let mut settling = trades.settling;
-    match field {
-        LAST => {
-            trades.last = small;
-        }
-        CONTRACTS => {
-            settling.contracts = small;
-            trades.settling = settling;
-        }
-        _ => {
-            settling.gross = n;
-            trades.settling = settling;
-        }
-    }
-    trades
-}
-
-fn with_fixed(mut fixed: Fixed, field: usize, n: u64) -> Fixed {
-    if field == FIXED_PRICE {
-        fixed.price = (n % HALF) as u32;
-    } else {
-        fixed.amount = as_signed(n);
-    }
-    fixed
-}
-
-fn with_day(mut day: Day, field: usize, n: u64) -> Day {
-    match field {
-        MARKET | MINUTE | BOTH_MARKETS => {
-            let markets = day.markets;
-            day.markets = with_market(markets, field, n);
-        }
-        LAST | CONTRACTS | GROSS => {
-            let trades = day.trades;
-            day.trades = with_trades(trades, field, n);
-        }
-        FIXED_PRICE | FIXED_AMOUNT => {
-            let fixed = day.fixed;
-            day.fixed = with_fixed(fixed, field, n);
-        }
-        _ => {
-            let minutes = day.minutes;
-            day.minutes = with_minutes(minutes, field, n);
-        }
+        day.markets.minute.bid = bid;
+        day.markets.minute.offer = offer;
     }
     day
 }
 
 fn with_figure(mut figures: Figures, field: usize, n: u64) -> Figures {
     let small = (n % HALF) as u32;
-    let mut previous = figures.previous;
+    let day = figures.day;
     match field {
-        SIZE => {
-            figures.size = small;
+        SIZE => figures.size = small,
+        CLOSED => figures.closed = small,
+        HALTED => figures.halted = small != 0,
+        PREVIOUS_PRICE => figures.previous.price = small,
+        PREVIOUS_INDEX => figures.previous.index = small,
+        MINUTES => figures.day.minutes.ended = small,
+        VALID => figures.day.minutes.valid = small,
+        VALID_MINUTES => {
+            figures.day.minutes.ended = small;
+            figures.day.minutes.valid = small;
         }
-        CLOSED => {
-            figures.closed = small;
-        }
-        HALTED => {
-            figures.halted = small != 0;
-        }
-        PREVIOUS_PRICE => {
-            previous.price = small;
-            figures.previous = previous;
-        }
-        PREVIOUS_INDEX => {
-            previous.index = small;
-            figures.previous = previous;
-        }
-        _ => {
-            let day = figures.day;
-            figures.day = with_day(day, field, n);
-        }
+        LAST => figures.day.trades.last = small,
+        CONTRACTS => figures.day.trades.settling.contracts = small,
+        GROSS => figures.day.trades.settling.gross = n,
+        INDEX => figures.day.minutes.index = small,
+        FIXED_PRICE => figures.day.fixed.price = small,
+        WEIGHTED | FIXED_AMOUNT => figures.day = with_signed(day, field, as_signed(n)),
+        _ => figures.day = with_market(day, field, n),
     }
     figures
 }
 
+fn opened(size: u32) -> Book {
+    let answer = Book::opening(size);
+    answer.book
+}
+
+// A book with this number in a field. An account is no number of the book.
 pub fn with_value(mut book: Book, account: u8, field: usize, n: u64) -> Book {
     let i = account as usize;
     let large = as_signed(n);
+    let small = (n % HALF) as u32;
     match field {
-        OPENING => {
-            book.opening[i] = large;
-        }
-        POSITION => {
-            book.position[i] = large;
-        }
-        COST => {
-            book.cost[i] = large;
-        }
-        VOLUME => {
-            book.volume[i] = (n % HALF) as u32;
-        }
-        CASH => {
-            book.cash[i] = large;
-        }
+        OPENING => book.opening[i] = large,
+        POSITION => book.position[i] = large,
+        COST => book.cost[i] = large,
+        VOLUME => book.volume[i] = small,
+        CASH => book.cash[i] = large,
+        ACCOUNT => {}
+        OPENED => book = opened(small),
         _ => {
             let figures = book.figures;
             book.figures = with_figure(figures, field, n);

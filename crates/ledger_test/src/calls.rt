@@ -28,6 +28,9 @@ pub const REPORT: usize = FIELDS + 9;
 
 pub const PRODUCTS: usize = FIELDS + 10;
 
+// No call at all, not even an unknown one.
+pub const NOTHING: usize = 1_000;
+
 fn trade_of(n: Numbers) -> Trade {
     Trade {
         buyer: (n.first % 256) as u8,

@@ -6,14 +6,13 @@ use crate::fields::HALTED;
 use crate::fields::MARKET;
 use crate::fields::MINUTE;
 use crate::numbers::HALF;
-use crate::numbers::print_signed;
-use crate::print::number;
 use crate::words::BLANK;
 use crate::words::NEXT;
 use crate::words::NEXT_ACCOUNT;
-use crate::words::NOT;
+use crate::words::NEXT_NOT;
 use crate::words::SLASH;
 use crate::words::print_after;
+use crate::words::print_name;
 use crate::words::print_word;
 use ledger::ACCOUNTS;
 use ledger::Book;
@@ -40,29 +39,27 @@ fn account_of(i: usize) -> usize {
 
 // A field's name and its number.
 fn print_field(field: usize, n: u64) {
-    if (field == HALTED) & (n == 0) {
-        print_word(NOT);
-    }
-    print_word(field);
+    print_name(field);
     match field {
         HALTED => {}
         MARKET | MINUTE => {
             print_after(BLANK, n / HALF);
             print_after(SLASH, n % HALF);
         }
-        _ => {
-            print_word(BLANK);
-            print_signed(n);
-        }
+        _ => print_after(BLANK, n),
     }
 }
 
 // What stands before a number that changed, where the last one that did was another.
-fn print_start(i: usize, last: usize) {
-    let account = account_of(i);
-    if account == ACCOUNTS {
-        print_word(NEXT);
+fn print_start(i: usize, last: usize, n: u64) {
+    if i < FIGURES {
+        if (i == HALTED) & (n == 0) {
+            print_word(NEXT_NOT);
+        } else {
+            print_word(NEXT);
+        }
     } else {
+        let account = account_of(i);
         if account != account_of(last) {
             print_after(NEXT_ACCOUNT, account as u64);
         }
@@ -76,7 +73,7 @@ fn change(i: usize, last: usize, before: u64, after: u64, shown: bool) -> usize 
         return last;
     }
     if shown {
-        print_start(i, last);
+        print_start(i, last, after);
         print_field(field_of(i), after);
     }
     i

@@ -4,16 +4,13 @@ use crate::books::empty;
 use crate::books::with_value;
 use crate::fields::ACCOUNT;
 use crate::fields::FIELDS;
-use crate::fields::OPENED;
-use crate::numbers::HALF;
 use crate::numbers::Numbers;
-use crate::numbers::numbers_of;
+use crate::numbers::reading_of;
 use crate::words::NO_FIELD;
 use crate::words::NO_NUMBER;
-use crate::words::find_number;
+use crate::words::named_by;
 use crate::words::print_word;
 use crate::words::word_at;
-use crate::words::word_of;
 use ledger::Book;
 
 // One field of a list.
@@ -27,41 +24,33 @@ struct Item {
 }
 
 impl Item {
-    fn next(mut self, text: &[u8], case: Numbers) -> Self {
+    fn numbered(mut self, own: Numbers, case: Numbers) -> Self {
         let used = self.used;
-        self.field = word_of(text, 0);
-        if find_number(text) < text.len() {
-            let own = numbers_of(text);
+        if own.count != 0 {
             self.number = own.first;
+            return self;
+        }
+        if used < case.count {
+            self.used = used + 1;
         } else {
-            self.number = case.at(used);
-            if used < case.count {
-                self.used = used + 1;
-            } else {
-                print_word(NO_NUMBER);
-            }
+            print_word(NO_NUMBER);
         }
-        if self.field == ACCOUNT {
-            self.account = (self.number % 256) as u8;
-        }
+        self.number = case.at(used);
         self
     }
-}
 
-fn opened(size: u64) -> Book {
-    let answer = Book::opening((size % HALF) as u32);
-    answer.book
-}
-
-fn with_item(book: Book, item: Item) -> Book {
-    let field = item.field;
-    if FIELDS <= field {
-        print_word(NO_FIELD);
-    }
-    match field {
-        ACCOUNT => book,
-        OPENED => opened(item.number),
-        _ => with_value(book, item.account, field, item.number),
+    fn next(self, text: &[u8], case: Numbers) -> Self {
+        let reading = reading_of(text);
+        let mut item = self.numbered(reading.numbers, case);
+        let field = named_by(text, reading.name, 0);
+        item.field = field;
+        if field == ACCOUNT {
+            item.account = (item.number % 256) as u8;
+        }
+        if FIELDS <= field {
+            print_word(NO_FIELD);
+        }
+        item
     }
 }
 
@@ -83,7 +72,7 @@ pub fn made_book(book: Book, list: &[u8], case: Numbers) -> Book {
         let text = word_at(list, place);
         if text.len() != 0 {
             item = item.next(text, case);
-            after = with_item(after, item);
+            after = with_value(after, item.account, item.field, item.number);
         }
         place += 1;
     }

@@ -1,15 +1,13 @@
 // The numbers of a text. Each is 64 bits: a negative number is what 2^64 leaves of its size, and a market, as 200100/200300,
 // is its bid times 2^32 and its offer.
-use crate::print::number;
-use crate::words::MINUS;
-use crate::words::print_after;
 use std::num::wrapping_add_u64;
+use std::num::wrapping_add_usize;
 use std::num::wrapping_sub_u64;
 
 // 2^32
 pub const HALF: u64 = 4_294_967_296;
 
-// The first five numbers of a text, and how many there are of them.
+// The first five numbers of a text.
 pub struct Numbers {
     pub first: u64,
     pub second: u64,
@@ -17,6 +15,15 @@ pub struct Numbers {
     pub fourth: u64,
     pub fifth: u64,
     pub count: u32,
+}
+
+// A text that is being read.
+pub struct Reading {
+    pub numbers: Numbers,
+    // Where what stands before the first number ends, without the blank after it.
+    pub name: usize,
+    // Where what follows a colon begins.
+    pub call: usize,
     // The number that is being read: whether it has begun, its digits up to here, the bid before them, its sign.
     begun: bool,
     digits: u64,
@@ -41,15 +48,6 @@ pub fn as_signed(n: u64) -> i64 {
     }
 }
 
-// A number with a sign, which the upper half of the numbers of 64 bits have.
-pub fn print_signed(n: u64) {
-    if n <= 9_223_372_036_854_775_807 {
-        number(n);
-    } else {
-        print_after(MINUS, wrapping_sub_u64(0, n));
-    }
-}
-
 impl Numbers {
     pub fn none() -> Self {
         Self {
@@ -59,10 +57,6 @@ impl Numbers {
             fourth: 0,
             fifth: 0,
             count: 0,
-            begun: false,
-            digits: 0,
-            bid: 0,
-            negative: false,
         }
     }
 
@@ -82,46 +76,42 @@ impl Numbers {
             self.count = count + 1;
         }
         match count {
-            0 => {
-                self.first = n;
-            }
-            1 => {
-                self.second = n;
-            }
-            2 => {
-                self.third = n;
-            }
-            3 => {
-                self.fourth = n;
-            }
-            4 => {
-                self.fifth = n;
-            }
+            0 => self.first = n,
+            1 => self.second = n,
+            2 => self.third = n,
+            3 => self.fourth = n,
+            4 => self.fifth = n,
             _ => {}
         }
         self
     }
+}
 
-    // After the end of a number, if one had begun.
-    fn ended(self) -> Self {
-        let mut after = self;
+impl Reading {
+    // At the end of a number, if one had begun.
+    fn ended(mut self, i: usize) -> Self {
+        let numbers = self.numbers;
+        let n = wrapping_add_u64(self.bid, self.digits);
         if self.begun {
-            let n = wrapping_add_u64(self.bid, self.digits);
             if self.negative {
-                after = self.with(wrapping_sub_u64(0, n));
+                self.numbers = numbers.with(wrapping_sub_u64(0, n));
             } else {
-                after = self.with(n);
+                self.numbers = numbers.with(n);
+            }
+        } else {
+            if numbers.count == 0 {
+                self.name = i;
             }
         }
-        after.begun = false;
-        after.digits = 0;
-        after.bid = 0;
-        after.negative = false;
-        after
+        self.begun = false;
+        self.digits = 0;
+        self.bid = 0;
+        self.negative = false;
+        self
     }
 
-    // After one more byte. The remainder keeps the product with 10 within 64 bits.
-    fn after(mut self, byte: u8) -> Self {
+    // After the byte at this place. The remainder keeps the product with 10 within 64 bits.
+    fn after(mut self, byte: u8, i: usize) -> Self {
         let digits = self.digits;
         match byte {
             b'0'..=b'9' => {
@@ -139,17 +129,29 @@ impl Numbers {
                 self.negative = true;
                 self
             }
-            _ => self.ended(),
+            b':' => {
+                self.call = wrapping_add_usize(i, 2);
+                self.ended(i)
+            }
+            _ => self.ended(i),
         }
     }
 }
 
-pub fn numbers_of(s: &[u8]) -> Numbers {
-    let mut numbers = Numbers::none();
+pub fn reading_of(s: &[u8]) -> Reading {
+    let mut reading = Reading {
+        numbers: Numbers::none(),
+        name: 0,
+        call: 0,
+        begun: false,
+        digits: 0,
+        bid: 0,
+        negative: false,
+    };
     let mut i: usize = 0;
     while i < s.len() {
-        numbers = numbers.after(s[i]);
+        reading = reading.after(s[i], i);
         i += 1;
     }
-    numbers.ended()
+    reading.ended(i)
 }

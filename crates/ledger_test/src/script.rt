@@ -1,6 +1,7 @@
 // The cases, line by line.
 use crate::books::empty;
 use crate::calls::MINUTE_ENDS;
+use crate::calls::NOTHING;
 use crate::calls::OPENING;
 use crate::calls::PRODUCTS;
 use crate::calls::QUOTE;
@@ -8,7 +9,7 @@ use crate::calls::REPORT;
 use crate::making::made_book;
 use crate::numbers::HALF;
 use crate::numbers::Numbers;
-use crate::numbers::numbers_of;
+use crate::numbers::reading_of;
 use crate::print::text;
 use crate::reports::report;
 use crate::turn::minute_ends;
@@ -19,30 +20,75 @@ use crate::words::CLAMP;
 use crate::words::END_LINE;
 use crate::words::OF_SIZE;
 use crate::words::SPREAD_LIMIT;
-use crate::words::find;
+use crate::words::named_by;
 use crate::words::part;
 use crate::words::print_after;
 use crate::words::print_word;
-use crate::words::word_of;
 use day::product::Product;
 use ledger::Book;
 
-// Where the list of fields stands by which each case has a book of its own, if there is one.
-struct List {
+// What a line asks for.
+struct Line {
+    // Where the list of fields stands by which a book is made now, and by which each case has a book of its own; at 0 where
+    // there is none.
     from: usize,
     to: usize,
+    each_from: usize,
+    each_to: usize,
+    // The numbers of the line, its call, and the call's numbers.
+    numbers: Numbers,
+    call: usize,
+    given: Numbers,
 }
 
-impl List {
-    fn after(self, line: &[u8], from: usize, to: usize) -> Self {
+impl Line {
+    fn case(mut self, line: &[u8]) -> Self {
+        let reading = reading_of(line);
+        let call = part(line, reading.call, line.len());
+        let called = reading_of(call);
+        let numbers = reading.numbers;
+        let given = called.numbers;
+        self.numbers = numbers;
+        self.given = given;
+        self.call = named_by(call, called.name, QUOTE);
+        self.from = self.each_from;
+        self.to = self.each_to;
+        text(line);
+        self
+    }
+
+    fn next(mut self, line: &[u8], from: usize, to: usize) -> Self {
+        if self.call != NOTHING {
+            print_word(END_LINE);
+        }
+        self.from = 0;
+        self.to = 0;
+        self.call = NOTHING;
         if line.len() == 0 {
             return self;
         }
         match line[0] {
-            b'|' => List { from, to },
-            b'>' => List { from: 0, to: 0 },
-            _ => self,
+            b'#' => {}
+            b'-' => {
+                text(line);
+                print_word(END_LINE);
+            }
+            b'|' => {
+                self.each_from = from;
+                self.each_to = to;
+            }
+            b'>' => {
+                self.each_from = 0;
+                self.each_to = 0;
+                self.from = from;
+                self.to = to;
+                self.numbers = Numbers::none();
+            }
+            _ => {
+                return self.case(line);
+            }
         }
+        self
     }
 }
 
@@ -64,65 +110,36 @@ fn played(book: Book, call: usize, n: Numbers) -> Book {
         return minute_ends(book, (n.first % HALF) as u32, n.second);
     }
     match call {
-        REPORT => report(book, n.first as usize, n.second as usize),
+        NOTHING => {}
+        REPORT => report(book, n.first as usize, n.second as usize, true),
         PRODUCTS => products(),
         _ => row(book),
     }
     book
 }
 
-// The call of a case: what follows its colon, or all of it.
-fn call_of(case: &[u8]) -> &[u8] {
-    let colon = find(case, b':', b':');
-    if colon < case.len() {
-        if 1 < case.len() - colon {
-            return part(case, colon + 2, case.len());
-        }
-    }
-    case
-}
-
-fn played_case(book: Book, case: &[u8]) -> Book {
-    text(case);
-    let call = call_of(case);
-    let after = played(book, word_of(call, QUOTE), numbers_of(call));
-    print_word(END_LINE);
-    after
-}
-
-fn print_heading(line: &[u8]) {
-    text(line);
-    print_word(END_LINE);
-}
-
-fn played_line(book: Book, list: &[u8], line: &[u8]) -> Book {
-    if line.len() == 0 {
-        return book;
-    }
-    match line[0] {
-        b'#' | b'|' => book,
-        b'-' => {
-            print_heading(line);
-            book
-        }
-        b'>' => made_book(book, line, Numbers::none()),
-        _ => played_case(made_book(book, list, numbers_of(line)), line),
-    }
-}
-
 pub fn run(script: &[u8]) {
     let mut book = empty(10);
-    let mut list = List { from: 0, to: 0 };
+    let mut line = Line {
+        from: 0,
+        to: 0,
+        each_from: 0,
+        each_to: 0,
+        numbers: Numbers::none(),
+        call: NOTHING,
+        given: Numbers::none(),
+    };
     let mut start: usize = 0;
     let mut i: usize = 0;
     while i < script.len() {
         let next = i + 1;
         if script[i] == b'\n' {
-            let line = part(script, start, i);
-            list = list.after(line, start, i);
-            book = played_line(book, part(script, list.from, list.to), line);
+            line = line.next(part(script, start, i), start, i);
+            let list = part(script, line.from, line.to);
+            book = played(made_book(book, list, line.numbers), line.call, line.given);
             start = next;
         }
         i = next;
     }
+    line.next(b"", 0, 0);
 }

@@ -5,38 +5,34 @@ use crate::calls::made;
 use crate::changes::changes;
 use crate::numbers::Numbers;
 use crate::numbers::of_signed;
-use crate::numbers::print_signed;
+use crate::reports::report;
 use crate::words::ACCEPTED;
 use crate::words::AMOUNT;
 use crate::words::BLANK;
 use crate::words::BOOK_CHANGED;
+use crate::words::CODES;
 use crate::words::PRICE;
 use crate::words::RATE;
 use crate::words::REFUSED;
-use crate::words::ROW;
-use crate::words::ROW_CALLS;
 use crate::words::SAME_BOOK;
 use crate::words::VALID;
-use crate::words::numbers_at;
 use crate::words::print_after;
 use crate::words::print_word;
+use crate::words::row_numbers;
 use day::outcome::Fixing;
 use ledger::ACCOUNTS;
 use ledger::Book;
 
+// Nothing where all of it is 0.
 fn print_fixing(fixing: Fixing) {
-    let none = (fixing.price == 0)
-        & (fixing.rate == 0)
-        & (fixing.amount == 0)
-        & (fixing.valid == 0);
-    if none {
+    let rate = of_signed(fixing.rate);
+    let amount = of_signed(fixing.amount);
+    if (fixing.price as u64 | rate | amount | fixing.valid as u64) == 0 {
         return;
     }
     print_after(PRICE, fixing.price as u64);
-    print_word(RATE);
-    print_signed(of_signed(fixing.rate));
-    print_word(AMOUNT);
-    print_signed(of_signed(fixing.amount));
+    print_after(RATE, rate);
+    print_after(AMOUNT, amount);
     print_after(VALID, fixing.valid as u64);
 }
 
@@ -76,23 +72,17 @@ fn entry(book: Book, call: usize, n: Numbers) -> bool {
     (answer.code != 0) & changes(book, answer.book, false)
 }
 
-fn report_entry(book: Book) {
-    let mut positions: [i64; ACCOUNTS] = [0; ACCOUNTS];
-    let mut cash: [i64; ACCOUNTS] = [0; ACCOUNTS];
-    print_after(BLANK, book.report(&mut positions, &mut cash) as u64);
-}
-
 // Prints the numbers that quote, trade, halt, resume, minute end, fix, close and report come to on this book, and whether
 // the refused ones hand the same book back.
 pub fn row(book: Book) {
-    print_word(ROW);
+    print_word(CODES);
     let mut changed = false;
     let mut i: usize = 0;
     while i <= CLOSE - QUOTE {
-        changed = entry(book, QUOTE + i, numbers_at(ROW_CALLS + i)) | changed;
+        changed = entry(book, QUOTE + i, row_numbers(i)) | changed;
         i += 1;
     }
-    report_entry(book);
+    report(book, ACCOUNTS, ACCOUNTS, false);
     print_changed(changed);
 }
 

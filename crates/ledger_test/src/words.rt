@@ -1,77 +1,75 @@
-// Parts of a text, and the words that the program knows. A text that is printed by its number is cheaper to check than one
-// that stands where it is printed.
+// The words that the program knows, by number. A text that is printed by its number is cheaper to check than one that stands
+// where it is printed.
 use crate::numbers::Numbers;
-use crate::numbers::numbers_of;
+use crate::numbers::reading_of;
 use crate::print::number;
 use crate::print::text;
 
-// Each word ends with a bar; its place is its number. First the fields, in the order of fields.rt; then the calls, in the
-// order of calls.rt; then what else is printed, as below; last the calls of a row.
-const WORDS: [u8; 611] =
+// The fields, in the order of fields.rt, and the calls, in the order of calls.rt. A name ends with a bar; its place is the
+// number of the field or the call.
+const NAMES: [u8; 291] =
     *b"size|closed days|halted|previous price|previous index|minutes|k|S|market|minute's market|\
     last|n|gross|index|fixed price|fixed amount|opening|position|cost|v|cash|\
     account|opened|both markets|valid minutes|\
-    quote|trade|halt|resume|minute end|fix|close|opening|minute ends of|report to|products|\
-    \n| |/|-|=|; |not |; account |: accepted|: refused |, same book|, BOOK CHANGED|:|\
+    quote|trade|halt|resume|minute end|fix|close|opening|minute ends of|report to|products|";
+// What else is printed.
+const TEXTS: [u8; 212] =
+    *b"\n| |/|=|; |; not |; account |: accepted|: refused |, same book|, BOOK CHANGED|:|\
     , price | rate | amount | valid | of size | and |, clamp |, spread limit |\
-    ; positions|; cash| unchanged|NO SUCH FIELD: |NO NUMBER: |\
-    quote 200100/200300|trade 1 2 kind 0 quantity 1 price 200200|halt|resume|minute end 200000|fix 200200|close|";
+    ; positions|; cash| unchanged|NO SUCH FIELD: |NO NUMBER: |";
+// The calls of a row.
+const ROW: [u8; 108] =
+    *b"quote 200100/200300|trade 1 2 kind 0 quantity 1 price 200200|halt|resume|minute end 200000|fix 200200|close|";
 
-const TEXTS: usize = 36;
+pub const END_LINE: usize = 0;
 
-pub const END_LINE: usize = TEXTS;
+pub const BLANK: usize = 1;
 
-pub const BLANK: usize = TEXTS + 1;
+pub const SLASH: usize = 2;
 
-pub const SLASH: usize = TEXTS + 2;
+pub const EQUALS: usize = 3;
 
-pub const MINUS: usize = TEXTS + 3;
+pub const NEXT: usize = 4;
 
-pub const EQUALS: usize = TEXTS + 4;
+pub const NEXT_NOT: usize = 5;
 
-pub const NEXT: usize = TEXTS + 5;
+pub const NEXT_ACCOUNT: usize = 6;
 
-pub const NOT: usize = TEXTS + 6;
+pub const ACCEPTED: usize = 7;
 
-pub const NEXT_ACCOUNT: usize = TEXTS + 7;
+pub const REFUSED: usize = 8;
 
-pub const ACCEPTED: usize = TEXTS + 8;
+pub const SAME_BOOK: usize = 9;
 
-pub const REFUSED: usize = TEXTS + 9;
+pub const BOOK_CHANGED: usize = 10;
 
-pub const SAME_BOOK: usize = TEXTS + 10;
+pub const CODES: usize = 11;
 
-pub const BOOK_CHANGED: usize = TEXTS + 11;
+pub const PRICE: usize = 12;
 
-pub const ROW: usize = TEXTS + 12;
+pub const RATE: usize = 13;
 
-pub const PRICE: usize = TEXTS + 13;
+pub const AMOUNT: usize = 14;
 
-pub const RATE: usize = TEXTS + 14;
+pub const VALID: usize = 15;
 
-pub const AMOUNT: usize = TEXTS + 15;
+pub const OF_SIZE: usize = 16;
 
-pub const VALID: usize = TEXTS + 16;
+pub const AND: usize = 17;
 
-pub const OF_SIZE: usize = TEXTS + 17;
+pub const CLAMP: usize = 18;
 
-pub const AND: usize = TEXTS + 18;
+pub const SPREAD_LIMIT: usize = 19;
 
-pub const CLAMP: usize = TEXTS + 19;
+pub const POSITIONS: usize = 20;
 
-pub const SPREAD_LIMIT: usize = TEXTS + 20;
+pub const CASH: usize = 21;
 
-pub const POSITIONS: usize = TEXTS + 21;
+pub const UNCHANGED: usize = 22;
 
-pub const CASH: usize = TEXTS + 22;
+pub const NO_FIELD: usize = 23;
 
-pub const UNCHANGED: usize = TEXTS + 23;
-
-pub const NO_FIELD: usize = TEXTS + 24;
-
-pub const NO_NUMBER: usize = TEXTS + 25;
-// The first call of a row.
-pub const ROW_CALLS: usize = TEXTS + 26;
+pub const NO_NUMBER: usize = 24;
 
 // The part of a text from one place to another; nothing where there is no such part.
 pub fn part(s: &[u8], from: usize, to: usize) -> &[u8] {
@@ -81,24 +79,6 @@ pub fn part(s: &[u8], from: usize, to: usize) -> &[u8] {
         }
     }
     &s[..0]
-}
-
-// Where the first byte between two stands; the length where there is none.
-pub fn find(s: &[u8], low: u8, high: u8) -> usize {
-    let mut i: usize = 0;
-    while i < s.len() {
-        let byte = s[i];
-        if (low <= byte) & (byte <= high) {
-            return i;
-        }
-        i += 1;
-    }
-    i
-}
-
-// Where the first number begins, with its sign.
-pub fn find_number(s: &[u8]) -> usize {
-    find(s, b'-', b'9')
 }
 
 // The word at a place of a list, in which each ends with a bar.
@@ -116,25 +96,14 @@ pub fn word_at(list: &[u8], place: usize) -> &[u8] {
         }
         i += 1;
     }
-    part(list, 0, 0)
+    &list[..0]
 }
 
-// A text up to its first number, without the blank before that.
-fn name_of(s: &[u8]) -> &[u8] {
-    let end = find_number(s);
-    if end < s.len() {
-        if 0 < end {
-            return part(s, 0, end - 1);
-        }
-    }
-    s
-}
-
-// The place of a name in a list, from a place on; the list's length where it isn't there.
-fn place_in(list: &[u8], first: usize, name: &[u8]) -> usize {
+// The place of a word in a list, from a place on; the list's length where it isn't there.
+fn place_in(list: &[u8], first: usize, word: &[u8]) -> usize {
     let mut place = first;
     while place < list.len() {
-        if check::same(word_at(list, place), name) {
+        if check::same(word_at(list, place), word) {
             return place;
         }
         place += 1;
@@ -142,13 +111,17 @@ fn place_in(list: &[u8], first: usize, name: &[u8]) -> usize {
     place
 }
 
-// The number of the word that a text begins with, from a number on.
-pub fn word_of(s: &[u8], first: usize) -> usize {
-    place_in(&WORDS, first, name_of(s))
+// The number of the field or the call whose name a text begins with, up to this place; from a number on.
+pub fn named_by(s: &[u8], end: usize, first: usize) -> usize {
+    place_in(&NAMES, first, part(s, 0, end))
+}
+
+pub fn print_name(field: usize) {
+    text(word_at(&NAMES, field));
 }
 
 pub fn print_word(word: usize) {
-    text(word_at(&WORDS, word));
+    text(word_at(&TEXTS, word));
 }
 
 // A number after a word.
@@ -157,7 +130,8 @@ pub fn print_after(word: usize, n: u64) {
     number(n);
 }
 
-// The numbers of a word.
-pub fn numbers_at(word: usize) -> Numbers {
-    numbers_of(word_at(&WORDS, word))
+// The numbers of a row's call.
+pub fn row_numbers(i: usize) -> Numbers {
+    let reading = reading_of(word_at(&ROW, i));
+    reading.numbers
 }

@@ -26,8 +26,8 @@ word-at-requires c κs = search needs
 next-requires : tie.Need-next-requires Inv-loop μ-loop
 next-requires c κs = search needs
 
-with-item-requires : tie.Need-with-item-requires Inv-loop μ-loop
-with-item-requires c κs = search needs
+with-value-requires : tie.Need-with-value-requires Inv-loop μ-loop
+with-value-requires c κs = search needs
 
 add-place : tie.Need-add-place Inv-loop μ-loop
 add-place c = search needs
@@ -52,7 +52,7 @@ made-book-spec =
     loop-holds
     word-at-requires
     next-requires
-    with-item-requires
+    with-value-requires
     add-place
     loop-less
     loop-again

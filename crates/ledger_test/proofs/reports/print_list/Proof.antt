@@ -6,22 +6,16 @@ use Rattle.ledger_test.proofs.reports.print_list.Statement.{statement}
 use Rattle.ledger_test.proofs.reports.print_list.Tie as tie
 
 abbrev Inv-loop : tie.InvT-loop
-Inv-loop name list i₀ i = Unit {0}
+Inv-loop name list most i₀ i = Unit {0}
 
 abbrev μ-loop : tie.MeasureT-loop
-μ-loop name list i₀ i = length list - i
+μ-loop name list most i₀ i = length list - i
 
 print-word-requires : tie.Need-print-word-requires Inv-loop μ-loop
 print-word-requires c κs = search needs
 
-is-unchanged-requires : tie.Need-is-unchanged-requires Inv-loop μ-loop
-is-unchanged-requires c κs = search needs
-
-print-word-requires-2 : tie.Need-print-word-requires-2 Inv-loop μ-loop
-print-word-requires-2 c κs = search needs
-
-returns : tie.Need-returns Inv-loop μ-loop
-returns c = search needs
+usual-requires : tie.Need-usual-requires Inv-loop μ-loop
+usual-requires c κs = search needs
 
 loop-holds : tie.Need-loop-holds Inv-loop μ-loop
 loop-holds c = search needs
@@ -44,6 +38,12 @@ loop-less c = search needs
 loop-again : tie.Need-loop-again Inv-loop μ-loop
 loop-again c = search needs
 
+print-word-requires-2 : tie.Need-print-word-requires-2 Inv-loop μ-loop
+print-word-requires-2 c κs = search needs
+
+returns : tie.Need-returns Inv-loop μ-loop
+returns c = search needs
+
 returns-2 : tie.Need-returns-2 Inv-loop μ-loop
 returns-2 c = search needs
 
@@ -54,9 +54,7 @@ print-list-spec =
     Inv-loop
     μ-loop
     print-word-requires
-    is-unchanged-requires
-    print-word-requires-2
-    returns
+    usual-requires
     loop-holds
     mul-print-entry
     shared-slice-copy-out-print-entry
@@ -64,4 +62,6 @@ print-list-spec =
     add-i
     loop-less
     loop-again
+    print-word-requires-2
+    returns
     returns-2)

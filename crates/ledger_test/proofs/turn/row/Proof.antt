@@ -22,11 +22,8 @@ sub-loop c = search needs
 add-entry : tie.Need-add-entry Inv-loop μ-loop
 add-entry c = search needs
 
-add-numbers-at : tie.Need-add-numbers-at Inv-loop μ-loop
-add-numbers-at c = search needs
-
-numbers-at-requires : tie.Need-numbers-at-requires Inv-loop μ-loop
-numbers-at-requires c κs = search needs
+row-numbers-requires : tie.Need-row-numbers-requires Inv-loop μ-loop
+row-numbers-requires c κs = search needs
 
 entry-requires : tie.Need-entry-requires Inv-loop μ-loop
 entry-requires c κs = search needs
@@ -40,8 +37,8 @@ loop-less c = search needs
 loop-again : tie.Need-loop-again Inv-loop μ-loop
 loop-again c = search needs
 
-report-entry-requires : tie.Need-report-entry-requires Inv-loop μ-loop
-report-entry-requires c κs = search needs
+report-requires : tie.Need-report-requires Inv-loop μ-loop
+report-requires c κs = search needs
 
 print-changed-requires : tie.Need-print-changed-requires Inv-loop μ-loop
 print-changed-requires c κs = search needs
@@ -59,12 +56,11 @@ row-spec =
     loop-holds
     sub-loop
     add-entry
-    add-numbers-at
-    numbers-at-requires
+    row-numbers-requires
     entry-requires
     add-i
     loop-less
     loop-again
-    report-entry-requires
+    report-requires
     print-changed-requires
     returns)

@@ -6,10 +6,10 @@ use Rattle.ledger_test.proofs.words.place_in.Statement.{statement}
 use Rattle.ledger_test.proofs.words.place_in.Tie as tie
 
 abbrev Inv-loop : tie.InvT-loop
-Inv-loop list first name place₀ place = Unit {0}
+Inv-loop list first word place₀ place = Unit {0}
 
 abbrev μ-loop : tie.MeasureT-loop
-μ-loop list first name place₀ place = length list - place
+μ-loop list first word place₀ place = length list - place
 
 loop-holds : tie.Need-loop-holds Inv-loop μ-loop
 loop-holds c = search needs

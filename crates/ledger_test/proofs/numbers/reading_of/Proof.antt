@@ -1,15 +1,15 @@
--- `ledger_test::numbers::numbers_of` is safe and ends: the bytes left fall. Assumes nothing.
+-- `ledger_test::numbers::reading_of` is safe and ends: the bytes left fall. Assumes nothing.
 use borrow.Author.Needs.{needs}
 use Prim.Native.Nat.{_-_}
 use lib.ListN.{length}
-use Rattle.ledger_test.proofs.numbers.numbers_of.Statement.{statement}
-use Rattle.ledger_test.proofs.numbers.numbers_of.Tie as tie
+use Rattle.ledger_test.proofs.numbers.reading_of.Statement.{statement}
+use Rattle.ledger_test.proofs.numbers.reading_of.Tie as tie
 
 abbrev Inv-loop : tie.InvT-loop
-Inv-loop s numbers₀ i₀ numbers i = Unit {0}
+Inv-loop s reading₀ i₀ reading i = Unit {0}
 
 abbrev μ-loop : tie.MeasureT-loop
-μ-loop s numbers₀ i₀ numbers i = length s - i
+μ-loop s reading₀ i₀ reading i = length s - i
 
 none-requires : tie.Need-none-requires Inv-loop μ-loop
 none-requires c κs = search needs
@@ -38,8 +38,8 @@ ended-requires c κs = search needs
 returns : tie.Need-returns Inv-loop μ-loop
 returns c = search needs
 
-pub numbers-of-spec : {M : Type 1} → statement M
-numbers-of-spec =
+pub reading-of-spec : {M : Type 1} → statement M
+reading-of-spec =
     tie.close
     (tie.spec
     Inv-loop
