@@ -1,122 +1,201 @@
-// Hand-made books.
+// The fields of a book, read and written by their numbers.
+use crate::fields::ACCOUNT;
+use crate::fields::CASH;
+use crate::fields::CLOSED;
+use crate::fields::CONTRACTS;
+use crate::fields::COST;
+use crate::fields::FIXED_AMOUNT;
+use crate::fields::FIXED_PRICE;
+use crate::fields::GROSS;
+use crate::fields::HALTED;
+use crate::fields::INDEX;
+use crate::fields::LAST;
+use crate::fields::MARKET;
+use crate::fields::MINUTE;
+use crate::fields::MINUTES;
+use crate::fields::OPENED;
+use crate::fields::OPENING;
+use crate::fields::POSITION;
+use crate::fields::PREVIOUS_INDEX;
+use crate::fields::PREVIOUS_PRICE;
+use crate::fields::SIZE;
+use crate::fields::VALID;
+use crate::fields::VALID_MINUTES;
+use crate::fields::VOLUME;
+use crate::fields::WEIGHTED;
+use crate::numbers::HALF;
+use crate::numbers::as_signed;
+use crate::numbers::of_signed;
+use day::Day;
+use day::Fixed;
+use day::Minutes;
+use day::Trades;
+use day::figures::Figures;
+use day::market::Market;
+use day::market::Markets;
 use funding::FinalMinute;
 use funding::Previous;
 use ledger::ACCOUNTS;
 use ledger::Book;
-use ledger::Day;
-use ledger::Figures;
-use ledger::Market;
-use ledger::product::Product;
 
-// One account's entries.
-pub struct Account {
-    pub opening: i64,
-    pub position: i64,
-    pub cost: i64,
-    pub volume: u32,
-    pub cash: i64,
+fn market_number(market: Market) -> u64 {
+    market.bid as u64 * HALF + market.offer as u64
 }
 
-pub fn no_account() -> Account {
-    Account {
-        opening: 0,
-        position: 0,
-        cost: 0,
-        volume: 0,
-        cash: 0,
+fn figure(figures: Figures, field: usize) -> u64 {
+    let day = figures.day;
+    match field {
+        SIZE => figures.size as u64,
+        CLOSED => figures.closed as u64,
+        HALTED => figures.halted as u64,
+        PREVIOUS_PRICE => figures.previous.price as u64,
+        PREVIOUS_INDEX => figures.previous.index as u64,
+        MINUTES => day.minutes.ended as u64,
+        VALID => day.minutes.valid as u64,
+        WEIGHTED => of_signed(day.minutes.weighted),
+        MARKET => market_number(day.markets.standing),
+        MINUTE => market_number(day.markets.minute),
+        LAST => day.trades.last as u64,
+        CONTRACTS => day.trades.settling.contracts as u64,
+        GROSS => day.trades.settling.gross,
+        INDEX => day.minutes.index as u64,
+        FIXED_PRICE => day.fixed.price as u64,
+        _ => of_signed(day.fixed.amount),
     }
 }
 
-pub fn no_market() -> Market {
-    Market { bid: 0, offer: 0 }
+// A figure, or an entry of an account.
+pub fn value(book: Book, account: usize, field: usize) -> u64 {
+    let i = account % ACCOUNTS;
+    match field {
+        OPENING => of_signed(book.opening[i]),
+        POSITION => of_signed(book.position[i]),
+        COST => of_signed(book.cost[i]),
+        VOLUME => book.volume[i] as u64,
+        CASH => of_signed(book.cash[i]),
+        _ => figure(book.figures, field),
+    }
 }
 
-pub fn empty_day() -> Day {
+fn with_signed(mut day: Day, field: usize, x: i64) -> Day {
+    let mut minutes = day.minutes;
+    let mut fixed = day.fixed;
+    if field == WEIGHTED {
+        minutes.weighted = x;
+        day.minutes = minutes;
+    } else {
+        fixed.amount = x;
+        day.fixed = fixed;
+    }
+    day
+}
+
+fn with_market(mut day: Day, field: usize, n: u64) -> Day {
+    let bid = (n / HALF) as u32;
+    let offer = (n % HALF) as u32;
+    if field != MINUTE {
+        day.markets.standing.bid = bid;
+        day.markets.standing.offer = offer;
+    }
+    if field != MARKET {
+        day.markets.minute.bid = bid;
+        day.markets.minute.offer = offer;
+    }
+    day
+}
+
+fn with_figure(mut figures: Figures, field: usize, n: u64) -> Figures {
+    let small = (n % HALF) as u32;
+    let day = figures.day;
+    match field {
+        SIZE => figures.size = small,
+        CLOSED => figures.closed = small,
+        HALTED => figures.halted = small != 0,
+        PREVIOUS_PRICE => figures.previous.price = small,
+        PREVIOUS_INDEX => figures.previous.index = small,
+        MINUTES => figures.day.minutes.ended = small,
+        VALID => figures.day.minutes.valid = small,
+        VALID_MINUTES => {
+            figures.day.minutes.ended = small;
+            figures.day.minutes.valid = small;
+        }
+        LAST => figures.day.trades.last = small,
+        CONTRACTS => figures.day.trades.settling.contracts = small,
+        GROSS => figures.day.trades.settling.gross = n,
+        INDEX => figures.day.minutes.index = small,
+        FIXED_PRICE => figures.day.fixed.price = small,
+        WEIGHTED | FIXED_AMOUNT => figures.day = with_signed(day, field, as_signed(n)),
+        _ => figures.day = with_market(day, field, n),
+    }
+    figures
+}
+
+fn opened(size: u32) -> Book {
+    let answer = Book::opening(size);
+    answer.book
+}
+
+// A book with this number in a field. An account is no number of the book.
+pub fn with_value(mut book: Book, account: u8, field: usize, n: u64) -> Book {
+    let i = account as usize;
+    let large = as_signed(n);
+    let small = (n % HALF) as u32;
+    match field {
+        OPENING => book.opening[i] = large,
+        POSITION => book.position[i] = large,
+        COST => book.cost[i] = large,
+        VOLUME => book.volume[i] = small,
+        CASH => book.cash[i] = large,
+        ACCOUNT => {}
+        OPENED => book = opened(small),
+        _ => {
+            let figures = book.figures;
+            book.figures = with_figure(figures, field, n);
+        }
+    }
+    book
+}
+
+fn no_day() -> Day {
     Day {
-        minutes: 0,
-        valid: 0,
-        weighted: 0,
-        market: no_market(),
-        minute: no_market(),
-        last: 0,
-        traded: FinalMinute {
-            contracts: 0,
-            gross: 0,
+        markets: Markets {
+            standing: Market { bid: 0, offer: 0 },
+            minute: Market { bid: 0, offer: 0 },
         },
-        index: 0,
-        price: 0,
-        amount: 0,
+        minutes: Minutes {
+            ended: 0,
+            valid: 0,
+            weighted: 0,
+            index: 0,
+        },
+        trades: Trades {
+            last: 0,
+            settling: FinalMinute {
+                contracts: 0,
+                gross: 0,
+            },
+        },
+        fixed: Fixed {
+            price: 0,
+            amount: 0,
+        },
     }
 }
 
-pub fn empty_figures(size: u32) -> Figures {
-    Figures {
-        size,
-        closed: 0,
-        halted: false,
-        previous: Previous { price: 0, index: 0 },
-        day: empty_day(),
-    }
-}
-
-// A book with these figures and no entry.
-pub fn of_figures(figures: Figures) -> Book {
+// A book of this size with nothing else.
+pub fn empty(size: u32) -> Book {
     Book {
-        figures,
+        figures: Figures {
+            size,
+            closed: 0,
+            halted: false,
+            previous: Previous { price: 0, index: 0 },
+            day: no_day(),
+        },
         opening: [0; ACCOUNTS],
         position: [0; ACCOUNTS],
         cost: [0; ACCOUNTS],
         volume: [0; ACCOUNTS],
         cash: [0; ACCOUNTS],
     }
-}
-
-pub fn empty(size: u32) -> Book {
-    of_figures(empty_figures(size))
-}
-
-// The book of an accepted opening.
-pub fn opened() -> Book {
-    let answer = Product::opening(10);
-    answer.book
-}
-
-// A book of size 10 with this day.
-pub fn of_day(day: Day) -> Book {
-    let mut figures = empty_figures(10);
-    figures.day = day;
-    of_figures(figures)
-}
-
-// A day with this many ended minutes.
-pub fn day_at(minutes: u32) -> Day {
-    let mut day = empty_day();
-    day.minutes = minutes;
-    day
-}
-
-pub fn entries(book: Book, account: u8) -> Account {
-    let i = account as usize;
-    Account {
-        opening: book.opening[i],
-        position: book.position[i],
-        cost: book.cost[i],
-        volume: book.volume[i],
-        cash: book.cash[i],
-    }
-}
-
-pub fn with_entries(mut book: Book, account: u8, entries: Account) -> Book {
-    let i = account as usize;
-    let opening = entries.opening;
-    let position = entries.position;
-    let cost = entries.cost;
-    let volume = entries.volume;
-    let cash = entries.cash;
-    book.opening[i] = opening;
-    book.position[i] = position;
-    book.cost[i] = cost;
-    book.volume[i] = volume;
-    book.cash[i] = cash;
-    book
 }

@@ -1,65 +1,57 @@
-// The calls: made by their methods, and printed.
-use crate::print::named;
-use crate::print::number;
-use crate::print::text;
+// The calls, by number, which is the place of the name among the words: first those that have an answer.
+use crate::fields::FIELDS;
+use crate::numbers::HALF;
+use crate::numbers::Numbers;
+use day::trade::Trade;
 use ledger::Answer;
 use ledger::Book;
-use ledger::Call;
-use ledger::Market;
-use ledger::Trade;
 
-pub fn quote(bid: u32, offer: u32) -> Call {
-    Call::Quote(Market { bid, offer })
-}
+pub const QUOTE: usize = FIELDS;
 
-pub fn trade(buyer: u8, seller: u8, kind: u8, quantity: u32, price: u32) -> Call {
-    Call::Trade(Trade {
-        buyer,
-        seller,
-        kind,
-        quantity,
-        price,
-    })
-}
+pub const TRADE: usize = FIELDS + 1;
 
-pub fn made(book: Book, call: Call) -> Answer {
-    match call {
-        Call::Quote(market) => book.quote(market.bid, market.offer),
-        Call::Trade(trade) => book.trade(trade),
-        Call::Halt => book.halt(),
-        Call::Resume => book.resume(),
-        Call::MinuteEnd(index) => book.minute_end(index),
-        Call::Fix(set) => book.fix(set),
-        Call::Close => book.close(),
+pub const HALT: usize = FIELDS + 2;
+
+pub const RESUME: usize = FIELDS + 3;
+
+pub const MINUTE_END: usize = FIELDS + 4;
+
+pub const FIX: usize = FIELDS + 5;
+
+pub const CLOSE: usize = FIELDS + 6;
+
+pub const OPENING: usize = FIELDS + 7;
+
+pub const MINUTE_ENDS: usize = FIELDS + 8;
+
+pub const REPORT: usize = FIELDS + 9;
+
+pub const PRODUCTS: usize = FIELDS + 10;
+
+// No call at all, not even an unknown one.
+pub const NOTHING: usize = 1_000;
+
+fn trade_of(n: Numbers) -> Trade {
+    Trade {
+        buyer: (n.first % 256) as u8,
+        seller: (n.second % 256) as u8,
+        kind: (n.third % 256) as u8,
+        quantity: (n.fourth % HALF) as u32,
+        price: (n.fifth % HALF) as u32,
     }
 }
 
-pub fn print_market(market: Market) {
-    number(market.bid as u64);
-    named(b"/", market.offer as u64);
-}
-
-fn print_trade(trade: Trade) {
-    named(b"trade ", trade.buyer as u64);
-    named(b" ", trade.seller as u64);
-    named(b" kind ", trade.kind as u64);
-    named(b" quantity ", trade.quantity as u64);
-    named(b" price ", trade.price as u64);
-}
-
-fn print_quote(market: Market) {
-    text(b"quote ");
-    print_market(market);
-}
-
-pub fn print_call(call: Call) {
+// A call that has an answer, by its method.
+pub fn made(book: Book, call: usize, n: Numbers) -> Answer {
+    let given = (n.first % HALF) as u32;
     match call {
-        Call::Quote(market) => print_quote(market),
-        Call::Trade(trade) => print_trade(trade),
-        Call::Halt => text(b"halt"),
-        Call::Resume => text(b"resume"),
-        Call::MinuteEnd(index) => named(b"minute end ", index as u64),
-        Call::Fix(set) => named(b"fix ", set as u64),
-        Call::Close => text(b"close"),
+        QUOTE => book.quote((n.first / HALF % HALF) as u32, given),
+        TRADE => book.trade(trade_of(n)),
+        HALT => book.halt(),
+        RESUME => book.resume(),
+        MINUTE_END => book.minute_end(given),
+        FIX => book.fix(given),
+        CLOSE => book.close(),
+        _ => Book::opening(given),
     }
 }

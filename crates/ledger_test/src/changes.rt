@@ -1,146 +1,94 @@
-// What differs between two books, in every field and every account's entries.
-use crate::books::Account;
-use crate::books::entries;
-use crate::calls::print_market;
-use crate::print::change;
-use crate::print::named;
-use crate::print::signed_change;
-use crate::print::text;
+// What differs between two books, in every figure and every account's entries.
+use crate::books::value;
+use crate::fields::ENTRIES;
+use crate::fields::FIGURES;
+use crate::fields::HALTED;
+use crate::fields::MARKET;
+use crate::fields::MINUTE;
+use crate::numbers::HALF;
+use crate::words::BLANK;
+use crate::words::NEXT;
+use crate::words::NEXT_ACCOUNT;
+use crate::words::NEXT_NOT;
+use crate::words::SLASH;
+use crate::words::print_after;
+use crate::words::print_name;
+use crate::words::print_word;
 use ledger::ACCOUNTS;
 use ledger::Book;
-use ledger::Day;
-use ledger::Figures;
-use ledger::Market;
 
-fn same_market(a: Market, b: Market) -> bool {
-    (a.bid == b.bid) & (a.offer == b.offer)
-}
+// A book's numbers: its figures, then the entries of each account.
+const NUMBERS: usize = FIGURES + ENTRIES * ACCOUNTS;
 
-fn same_day(a: Day, b: Day) -> bool {
-    (a.minutes == b.minutes)
-        & (a.valid == b.valid)
-        & (a.weighted == b.weighted)
-        & same_market(a.market, b.market)
-        & same_market(a.minute, b.minute)
-        & (a.last == b.last)
-        & (a.traded.contracts == b.traded.contracts)
-        & (a.traded.gross == b.traded.gross)
-        & (a.index == b.index)
-        & (a.price == b.price)
-        & (a.amount == b.amount)
-}
-
-fn same_figures(a: Figures, b: Figures) -> bool {
-    (a.size == b.size)
-        & (a.closed == b.closed)
-        & (a.halted == b.halted)
-        & (a.previous.price == b.previous.price)
-        & (a.previous.index == b.previous.index)
-        & same_day(a.day, b.day)
-}
-
-fn same_account(a: Account, b: Account) -> bool {
-    (a.opening == b.opening)
-        & (a.position == b.position)
-        & (a.cost == b.cost)
-        & (a.volume == b.volume)
-        & (a.cash == b.cash)
-}
-
-fn same_accounts(a: Book, b: Book) -> bool {
-    let mut same = true;
-    let mut i: usize = 0;
-    while i < ACCOUNTS {
-        let account = i as u8;
-        same = same & same_account(entries(a, account), entries(b, account));
-        i += 1;
-    }
-    same
-}
-
-pub fn same_book(a: Book, b: Book) -> bool {
-    same_figures(a.figures, b.figures) & same_accounts(a, b)
-}
-
-fn market_change(name: &[u8], before: Market, after: Market) {
-    if !same_market(before, after) {
-        text(name);
-        print_market(after);
+fn field_of(i: usize) -> usize {
+    if i < FIGURES {
+        i
+    } else {
+        FIGURES + (i - FIGURES) % ENTRIES
     }
 }
 
-fn minute_changes(before: Day, after: Day) {
-    change(b"; minutes ", before.minutes as u64, after.minutes as u64);
-    change(b"; k ", before.valid as u64, after.valid as u64);
-    signed_change(b"; S ", before.weighted, after.weighted);
-    market_change(b"; market ", before.market, after.market);
-    market_change(b"; minute's market ", before.minute, after.minute);
-    change(b"; last ", before.last as u64, after.last as u64);
+// The account of a number; ACCOUNTS where it is a figure or there is no such number.
+fn account_of(i: usize) -> usize {
+    if i < FIGURES {
+        ACCOUNTS
+    } else {
+        (i - FIGURES) / ENTRIES
+    }
 }
 
-fn price_changes(before: Day, after: Day) {
-    let earlier = before.traded;
-    let later = after.traded;
-    change(b"; n ", earlier.contracts as u64, later.contracts as u64);
-    change(b"; gross ", earlier.gross, later.gross);
-    change(b"; index ", before.index as u64, after.index as u64);
-    change(b"; fixed price ", before.price as u64, after.price as u64);
-    signed_change(b"; fixed amount ", before.amount, after.amount);
-}
-
-fn halt_change(before: bool, after: bool) {
-    if before != after {
-        if after {
-            text(b"; halted");
-        } else {
-            text(b"; not halted");
+// A field's name and its number.
+fn print_field(field: usize, n: u64) {
+    print_name(field);
+    match field {
+        HALTED => {}
+        MARKET | MINUTE => {
+            print_after(BLANK, n / HALF);
+            print_after(SLASH, n % HALF);
         }
+        _ => print_after(BLANK, n),
     }
 }
 
-fn figures_changes(before: Figures, after: Figures) {
-    change(b"; size ", before.size as u64, after.size as u64);
-    change(b"; closed days ", before.closed as u64, after.closed as u64);
-    halt_change(before.halted, after.halted);
-    let earlier = before.previous;
-    let later = after.previous;
-    change(
-        b"; previous price ",
-        earlier.price as u64,
-        later.price as u64,
-    );
-    change(
-        b"; previous index ",
-        earlier.index as u64,
-        later.index as u64,
-    );
-    minute_changes(before.day, after.day);
-    price_changes(before.day, after.day);
-}
-
-fn account_changes(account: u8, before: Account, after: Account) {
-    if same_account(before, after) {
-        return;
+// What stands before a number that changed, where the last one that did was another.
+fn print_start(i: usize, last: usize, n: u64) {
+    if i < FIGURES {
+        if (i == HALTED) & (n == 0) {
+            print_word(NEXT_NOT);
+        } else {
+            print_word(NEXT);
+        }
+    } else {
+        let account = account_of(i);
+        if account != account_of(last) {
+            print_after(NEXT_ACCOUNT, account as u64);
+        }
+        print_word(BLANK);
     }
-    named(b"; account ", account as u64);
-    signed_change(b" opening ", before.opening, after.opening);
-    signed_change(b" position ", before.position, after.position);
-    signed_change(b" cost ", before.cost, after.cost);
-    change(b" v ", before.volume as u64, after.volume as u64);
-    signed_change(b" cash ", before.cash, after.cash);
 }
 
-fn accounts_changes(before: Book, after: Book) {
+// The last number that changed, where it was this one before. Where it is to be shown, it is printed.
+fn change(i: usize, last: usize, before: u64, after: u64, shown: bool) -> usize {
+    if before == after {
+        return last;
+    }
+    if shown {
+        print_start(i, last, after);
+        print_field(field_of(i), after);
+    }
+    i
+}
+
+// Whether two books differ. Where it is to be shown, each number that differs is printed with its value in the second.
+pub fn changes(before: Book, after: Book, shown: bool) -> bool {
+    let mut last = NUMBERS;
     let mut i: usize = 0;
-    while i < ACCOUNTS {
-        let account = i as u8;
-        account_changes(account, entries(before, account), entries(after, account));
+    while i < NUMBERS {
+        let account = account_of(i);
+        let field = field_of(i);
+        let earlier = value(before, account, field);
+        last = change(i, last, earlier, value(after, account, field), shown);
         i += 1;
     }
-}
-
-// Prints each figure and each entry that differs, with its value in the second book.
-pub fn print_changes(before: Book, after: Book) {
-    figures_changes(before.figures, after.figures);
-    accounts_changes(before, after);
+    last != NUMBERS
 }

@@ -1,133 +1,100 @@
 // One call, or one row of calls, on a book, printed with its answer.
-use crate::books::opened;
+use crate::calls::CLOSE;
+use crate::calls::QUOTE;
 use crate::calls::made;
-use crate::calls::print_call;
-use crate::calls::quote;
-use crate::calls::trade;
-use crate::changes::print_changes;
-use crate::changes::same_book;
-use crate::print::end_line;
-use crate::print::named;
-use crate::print::named_signed;
-use crate::print::text;
+use crate::changes::changes;
+use crate::numbers::Numbers;
+use crate::numbers::of_signed;
+use crate::reports::report;
+use crate::words::ACCEPTED;
+use crate::words::AMOUNT;
+use crate::words::BLANK;
+use crate::words::BOOK_CHANGED;
+use crate::words::CODES;
+use crate::words::PRICE;
+use crate::words::RATE;
+use crate::words::REFUSED;
+use crate::words::SAME_BOOK;
+use crate::words::VALID;
+use crate::words::print_after;
+use crate::words::print_word;
+use crate::words::row_numbers;
+use day::outcome::Fixing;
 use ledger::ACCOUNTS;
-use ledger::Answer;
 use ledger::Book;
-use ledger::Call;
-use ledger::Fixing;
 
+// Nothing where all of it is 0.
 fn print_fixing(fixing: Fixing) {
-    let none = (fixing.price == 0)
-        & (fixing.rate == 0)
-        & (fixing.amount == 0)
-        & (fixing.valid == 0);
-    if none {
+    let rate = of_signed(fixing.rate);
+    let amount = of_signed(fixing.amount);
+    if (fixing.price as u64 | rate | amount | fixing.valid as u64) == 0 {
         return;
     }
-    named(b", price ", fixing.price as u64);
-    named_signed(b" rate ", fixing.rate);
-    named_signed(b" amount ", fixing.amount);
-    named(b" valid ", fixing.valid as u64);
+    print_after(PRICE, fixing.price as u64);
+    print_after(RATE, rate);
+    print_after(AMOUNT, amount);
+    print_after(VALID, fixing.valid as u64);
 }
 
-fn print_same(same: bool) {
-    if same {
-        text(b", same book");
+pub fn print_code(code: u8) {
+    if code == 0 {
+        print_word(ACCEPTED);
     } else {
-        text(b", BOOK CHANGED");
+        print_after(REFUSED, code as u64);
     }
 }
 
-// The answer's number, its fixing, and what it changed in the book.
-pub fn print_answer(before: Book, answer: Answer) {
-    let after = answer.book;
-    let fixing = answer.fixing;
-    if answer.code == 0 {
-        text(b": accepted");
+// Whether refused calls hand the same book back.
+fn print_changed(changed: bool) {
+    if changed {
+        print_word(BOOK_CHANGED);
     } else {
-        named(b": refused ", answer.code as u64);
-        print_same(same_book(before, after));
+        print_word(SAME_BOOK);
     }
-    print_fixing(fixing);
-    print_changes(before, after);
-    end_line();
 }
 
-// Makes the call, prints its line and hands the book back.
-pub fn turn(book: Book, call: Call) -> Book {
-    print_call(call);
-    let answer = made(book, call);
-    print_answer(book, answer);
+// Makes the call, prints its number, its fixing and what it changed in the book, and hands the book back.
+pub fn turn(book: Book, call: usize, n: Numbers) -> Book {
+    let answer = made(book, call, n);
+    print_code(answer.code);
+    print_fixing(answer.fixing);
+    let changed = changes(book, answer.book, true);
+    if answer.code != 0 {
+        print_changed(changed);
+    }
     answer.book
 }
 
-// The call on an opened book.
-pub fn on_opened(call: Call) {
-    turn(opened(), call);
-}
-
-// Makes the call, prints its number, and answers whether a refusal left the book the same.
-fn entry(book: Book, call: Call) -> bool {
-    let answer = made(book, call);
-    named(b" ", answer.code as u64);
-    let after = answer.book;
-    if answer.code == 0 {
-        true
-    } else {
-        same_book(book, after)
-    }
-}
-
-fn report_entry(book: Book) {
-    let mut positions: [i64; ACCOUNTS] = [0; ACCOUNTS];
-    let mut cash: [i64; ACCOUNTS] = [0; ACCOUNTS];
-    named(b" ", book.report(&mut positions, &mut cash) as u64);
+// Makes a call of a row, prints its number, and answers whether a refusal changed the book.
+fn entry(book: Book, call: usize, n: Numbers) -> bool {
+    let answer = made(book, call, n);
+    print_after(BLANK, answer.code as u64);
+    (answer.code != 0) & changes(book, answer.book, false)
 }
 
 // Prints the numbers that quote, trade, halt, resume, minute end, fix, close and report come to on this book, and whether
 // the refused ones hand the same book back.
 pub fn row(book: Book) {
-    text(b":");
-    let mut same = entry(book, quote(200_100, 200_300));
-    same = same & entry(book, trade(1, 2, 0, 1, 200_200));
-    same = same & entry(book, Call::Halt);
-    same = same & entry(book, Call::Resume);
-    same = same & entry(book, Call::MinuteEnd(200_000));
-    same = same & entry(book, Call::Fix(200_200));
-    same = same & entry(book, Call::Close);
-    report_entry(book);
-    print_same(same);
-    end_line();
+    print_word(CODES);
+    let mut changed = false;
+    let mut i: usize = 0;
+    while i <= CLOSE - QUOTE {
+        changed = entry(book, QUOTE + i, row_numbers(i)) | changed;
+        i += 1;
+    }
+    report(book, ACCOUNTS, ACCOUNTS, false);
+    print_changed(changed);
 }
 
-pub fn named_row(name: &[u8], n: u64, book: Book) {
-    named(name, n);
-    row(book);
-}
-
-pub fn signed_row(name: &[u8], x: i64, book: Book) {
-    named_signed(name, x);
-    row(book);
-}
-
-fn end_minutes(book: Book, count: u32, index: u32) -> Book {
+// Ends many minutes with one index, and prints what they changed.
+pub fn minute_ends(book: Book, index: u32, count: u64) -> Book {
     let mut after = book;
-    let mut i: u32 = 0;
+    let mut i: u64 = 0;
     while i < count {
         let answer = after.minute_end(index);
         after = answer.book;
         i += 1;
     }
-    after
-}
-
-// Ends many minutes with one index, and prints what they changed.
-pub fn minutes(book: Book, count: u32, index: u32) -> Book {
-    let after = end_minutes(book, count, index);
-    named(b"minute ends of ", index as u64);
-    named(b", ", count as u64);
-    text(b" times");
-    print_changes(book, after);
-    end_line();
+    changes(book, after, true);
     after
 }

@@ -1,15 +1,21 @@
--- `ledger_test::reports::print_entries` is safe and ends: the entries left fall. Assumes nothing.
+-- `ledger_test::reports::print_list` is safe and ends: the entries left fall. Assumes nothing.
 use borrow.Author.Needs.{needs}
 use Prim.Native.Nat.{_-_}
 use lib.ListN.{length}
-use Rattle.ledger_test.proofs.reports.print_entries.Statement.{statement}
-use Rattle.ledger_test.proofs.reports.print_entries.Tie as tie
+use Rattle.ledger_test.proofs.reports.print_list.Statement.{statement}
+use Rattle.ledger_test.proofs.reports.print_list.Tie as tie
 
 abbrev Inv-loop : tie.InvT-loop
-Inv-loop list i₀ i = Unit {0}
+Inv-loop name list most i₀ i = Unit {0}
 
 abbrev μ-loop : tie.MeasureT-loop
-μ-loop list i₀ i = length list - i
+μ-loop name list most i₀ i = length list - i
+
+print-word-requires : tie.Need-print-word-requires Inv-loop μ-loop
+print-word-requires c κs = search needs
+
+usual-requires : tie.Need-usual-requires Inv-loop μ-loop
+usual-requires c κs = search needs
 
 loop-holds : tie.Need-loop-holds Inv-loop μ-loop
 loop-holds c = search needs
@@ -32,15 +38,23 @@ loop-less c = search needs
 loop-again : tie.Need-loop-again Inv-loop μ-loop
 loop-again c = search needs
 
+print-word-requires-2 : tie.Need-print-word-requires-2 Inv-loop μ-loop
+print-word-requires-2 c κs = search needs
+
 returns : tie.Need-returns Inv-loop μ-loop
 returns c = search needs
 
-pub print-entries-spec : {M : Type 1} → statement M
-print-entries-spec =
+returns-2 : tie.Need-returns-2 Inv-loop μ-loop
+returns-2 c = search needs
+
+pub print-list-spec : {M : Type 1} → statement M
+print-list-spec =
     tie.close
     (tie.spec
     Inv-loop
     μ-loop
+    print-word-requires
+    usual-requires
     loop-holds
     mul-print-entry
     shared-slice-copy-out-print-entry
@@ -48,4 +62,6 @@ print-entries-spec =
     add-i
     loop-less
     loop-again
-    returns)
+    print-word-requires-2
+    returns
+    returns-2)
