@@ -84,7 +84,8 @@ fn weigh(day: Weighted, futures: u32, index: u32) -> Weighted
 
 // Bid, offer, last, index; weight and basis, both 0 where the minute is not valid.
 pub fn minute(day: Weighted, bid: u32, offer: u32, last: u32, index: u32) -> Weighted
-    requires { ⌜ (natAbs (day .sum) ≤ weightedLimit (day .count)) × (day .count < 10) × (isPrice bid ≡ true) × (isPrice offer ≡ true) × (isPrice last ≡ true) × (isPrice index ≡ true) ⌝ }
+    requires { ⌜ (natAbs (day .sum) ≤ weightedLimit (day .count)) × (day .count < 10)
+        × (isPrice bid ≡ true) × (isPrice offer ≡ true) × (isPrice last ≡ true) × (isPrice index ≡ true) ⌝ }
     ensures { λ r. ⌜ (natAbs (r .sum) ≤ weightedLimit (r .count)) × (r .count ≤ day .count + 1) ⌝ }
 {
     text(b"minute");
