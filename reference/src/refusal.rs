@@ -30,7 +30,7 @@ pub enum Check {
     NoPrice,
 }
 
-/// 7 is asked of both accounts before 8 of either.
+/// 7 is tested for both accounts before 8 for either.
 pub const CHECKING_ORDER: [Check; 9] = [
     Check::Day,
     Check::Halt,
