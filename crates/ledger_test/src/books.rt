@@ -4,6 +4,8 @@ use crate::fields::CASH;
 use crate::fields::CLOSED;
 use crate::fields::CONTRACTS;
 use crate::fields::COST;
+use crate::fields::ENTRIES;
+use crate::fields::FIGURES;
 use crate::fields::FIXED_AMOUNT;
 use crate::fields::FIXED_PRICE;
 use crate::fields::GROSS;
@@ -64,16 +66,18 @@ fn figure(figures: Figures, field: usize) -> u64 {
     }
 }
 
-// A figure, or an entry of an account.
-pub fn value(book: Book, account: usize, field: usize) -> u64 {
-    let i = account % ACCOUNTS;
-    match field {
-        OPENING => of_signed(book.opening[i]),
-        POSITION => of_signed(book.position[i]),
-        COST => of_signed(book.cost[i]),
-        VOLUME => book.volume[i] as u64,
-        CASH => of_signed(book.cash[i]),
-        _ => figure(book.figures, field),
+// The book's number at a place: a figure, then the entries of each account.
+pub fn number_at(book: Book, i: usize) -> u64 {
+    if i < FIGURES {
+        return figure(book.figures, i);
+    }
+    let account = (i - FIGURES) / ENTRIES % ACCOUNTS;
+    match FIGURES + (i - FIGURES) % ENTRIES {
+        OPENING => of_signed(book.opening[account]),
+        POSITION => of_signed(book.position[account]),
+        COST => of_signed(book.cost[account]),
+        VOLUME => book.volume[account] as u64,
+        _ => of_signed(book.cash[account]),
     }
 }
 

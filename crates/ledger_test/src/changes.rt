@@ -1,5 +1,5 @@
 // What differs between two books, in every figure and every account's entries.
-use crate::books::value;
+use crate::books::number_at;
 use crate::fields::ENTRIES;
 use crate::fields::FIGURES;
 use crate::fields::HALTED;
@@ -16,29 +16,18 @@ use crate::words::print_name;
 use crate::words::print_word;
 use ledger::ACCOUNTS;
 use ledger::Book;
+use std::num::wrapping_add_usize;
+use std::num::wrapping_sub_usize;
 
 // A book's numbers: its figures, then the entries of each account.
 const NUMBERS: usize = FIGURES + ENTRIES * ACCOUNTS;
 
-fn field_of(i: usize) -> usize {
-    if i < FIGURES {
-        i
+fn print_figure(field: usize, n: u64) {
+    if (field == HALTED) & (n == 0) {
+        print_word(NEXT_NOT);
     } else {
-        FIGURES + (i - FIGURES) % ENTRIES
+        print_word(NEXT);
     }
-}
-
-// The account of a number; ACCOUNTS where it is a figure or there is no such number.
-fn account_of(i: usize) -> usize {
-    if i < FIGURES {
-        ACCOUNTS
-    } else {
-        (i - FIGURES) / ENTRIES
-    }
-}
-
-// A field's name and its number.
-fn print_field(field: usize, n: u64) {
     print_name(field);
     match field {
         HALTED => {}
@@ -50,45 +39,41 @@ fn print_field(field: usize, n: u64) {
     }
 }
 
-// What stands before a number that changed, where the last one that did was another.
-fn print_start(i: usize, last: usize, n: u64) {
-    if i < FIGURES {
-        if (i == HALTED) & (n == 0) {
-            print_word(NEXT_NOT);
-        } else {
-            print_word(NEXT);
-        }
-    } else {
-        let account = account_of(i);
-        if account != account_of(last) {
-            print_after(NEXT_ACCOUNT, account as u64);
-        }
-        print_word(BLANK);
+// An entry, after its account where the last number that changed was none of that account's.
+fn print_entry(i: usize, changed: usize, n: u64) {
+    let place = wrapping_sub_usize(i, FIGURES);
+    let account = place / ENTRIES;
+    if account != wrapping_sub_usize(changed, FIGURES + 1) / ENTRIES {
+        print_after(NEXT_ACCOUNT, account as u64);
     }
+    print_word(BLANK);
+    print_name(FIGURES + place % ENTRIES);
+    print_after(BLANK, n);
 }
 
-// The last number that changed, where it was this one before. Where it is to be shown, it is printed.
-fn change(i: usize, last: usize, before: u64, after: u64, shown: bool) -> usize {
+// The place after the last number that changed, with the one at this place. Where it is to be shown, it is printed.
+fn change(i: usize, changed: usize, before: u64, after: u64, shown: bool) -> usize {
     if before == after {
-        return last;
+        return changed;
     }
     if shown {
-        print_start(i, last, after);
-        print_field(field_of(i), after);
+        if i < FIGURES {
+            print_figure(i, after);
+        } else {
+            print_entry(i, changed, after);
+        }
     }
-    i
+    wrapping_add_usize(i, 1)
 }
 
 // Whether two books differ. Where it is to be shown, each number that differs is printed with its value in the second.
 pub fn changes(before: Book, after: Book, shown: bool) -> bool {
-    let mut last = NUMBERS;
+    let mut changed: usize = 0;
     let mut i: usize = 0;
     while i < NUMBERS {
-        let account = account_of(i);
-        let field = field_of(i);
-        let earlier = value(before, account, field);
-        last = change(i, last, earlier, value(after, account, field), shown);
+        let earlier = number_at(before, i);
+        changed = change(i, changed, earlier, number_at(after, i), shown);
         i += 1;
     }
-    last != NUMBERS
+    changed != 0
 }

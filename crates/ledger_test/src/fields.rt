@@ -1,6 +1,5 @@
 // What a book holds, by number, which is the place of its name among the words: first the figures, then the entries of an
 // account, in the order in which changes are printed; last the names that only lists of fields have.
-
 pub const SIZE: usize = 0;
 
 pub const CLOSED: usize = 1;
@@ -35,25 +34,25 @@ pub const FIXED_AMOUNT: usize = 15;
 
 pub const FIGURES: usize = 16;
 
-pub const OPENING: usize = 16;
+pub const OPENING: usize = FIGURES;
 
-pub const POSITION: usize = 17;
+pub const POSITION: usize = FIGURES + 1;
 
-pub const COST: usize = 18;
+pub const COST: usize = FIGURES + 2;
 
-pub const VOLUME: usize = 19;
+pub const VOLUME: usize = FIGURES + 3;
 
-pub const CASH: usize = 20;
+pub const CASH: usize = FIGURES + 4;
 
 pub const ENTRIES: usize = 5;
 
 // The account of the entries that follow.
-pub const ACCOUNT: usize = 21;
+pub const ACCOUNT: usize = FIGURES + ENTRIES;
 // The book of an opening.
-pub const OPENED: usize = 22;
-// Two fields with one number.
-pub const BOTH_MARKETS: usize = 23;
+pub const OPENED: usize = ACCOUNT + 1;
+// The market and the minute's market; the ended minutes and k.
+pub const BOTH_MARKETS: usize = ACCOUNT + 2;
 
-pub const VALID_MINUTES: usize = 24;
+pub const VALID_MINUTES: usize = ACCOUNT + 3;
 
-pub const FIELDS: usize = 25;
+pub const FIELDS: usize = ACCOUNT + 4;

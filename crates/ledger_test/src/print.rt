@@ -1,4 +1,6 @@
 // Text and numbers on standard output.
+use crate::words::MINUS;
+use crate::words::print_word;
 use libc::STDOUT_FILENO;
 use std::num::wrapping_sub_u64;
 
@@ -11,7 +13,7 @@ pub fn number(n: u64) {
     if n <= 9_223_372_036_854_775_807 {
         io::print_decimal(STDOUT_FILENO, n);
     } else {
-        text(b"-");
+        print_word(MINUS);
         io::print_decimal(STDOUT_FILENO, wrapping_sub_u64(0, n));
     }
 }

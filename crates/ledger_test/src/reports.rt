@@ -15,45 +15,21 @@ const BEFORE: i64 = -777;
 // The longest list.
 const LONGEST: usize = 257;
 
-// What most entries of a list are expected to be: as before where the first one is, else 0.
-fn usual(list: &[i64]) -> i64 {
-    if 0 < list.len() {
-        if list[0] == BEFORE {
-            return BEFORE;
-        }
-    }
-    0
-}
-
-fn print_entry(i: usize, entry: i64, usual: i64) {
-    if entry != usual {
-        print_after(BLANK, i as u64);
-        print_after(EQUALS, of_signed(entry));
-    }
-}
-
-// Every entry that isn't as usual, and whether that is as before.
-fn print_list(name: usize, list: &[i64]) {
+// The entries that aren't 0; after a refusal those that aren't as before, and that the list is unchanged.
+fn print_list(name: usize, list: &[i64; LONGEST], length: usize, refused: bool) {
     print_word(name);
-    let most = usual(list);
+    let usual = if refused { BEFORE } else { 0 };
     let mut i: usize = 0;
-    while i < list.len() {
-        print_entry(i, list[i], most);
+    while i < LONGEST {
+        let entry = list[i];
+        if (i < length) & (entry != usual) {
+            print_after(BLANK, i as u64);
+            print_after(EQUALS, of_signed(entry));
+        }
         i += 1;
     }
-    if most != 0 {
+    if refused {
         print_word(UNCHANGED);
-    }
-}
-
-fn report_to(book: Book, positions: &mut [i64], cash: &mut [i64], shown: bool) {
-    let code = book.report(positions, cash);
-    if shown {
-        print_code(code);
-        print_list(POSITIONS, positions);
-        print_list(CASH, cash);
-    } else {
-        print_after(BLANK, code as u64);
     }
 }
 
@@ -63,7 +39,14 @@ pub fn report(book: Book, first: usize, second: usize, shown: bool) {
     let mut cash: [i64; LONGEST] = [BEFORE; LONGEST];
     if first <= LONGEST {
         if second <= LONGEST {
-            report_to(book, &mut positions[..first], &mut cash[..second], shown);
+            let code = book.report(&mut positions[..first], &mut cash[..second]);
+            if shown {
+                print_code(code);
+                print_list(POSITIONS, &positions, first, code != 0);
+                print_list(CASH, &cash, second, code != 0);
+            } else {
+                print_after(BLANK, code as u64);
+            }
         }
     }
 }

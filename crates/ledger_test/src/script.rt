@@ -29,13 +29,12 @@ use ledger::Book;
 
 // What a line asks for.
 struct Line {
-    // Where the list of fields stands by which a book is made now, and by which each case has a book of its own; at 0 where
-    // there is none.
+    // Where the list of fields stands by which the case's book is made; at 0 where there is none. The list may be for one
+    // case only.
     from: usize,
     to: usize,
-    each_from: usize,
-    each_to: usize,
-    // The numbers of the line, its call, and the call's numbers.
+    once: bool,
+    // The numbers of the case, its call, and the call's numbers.
     numbers: Numbers,
     call: usize,
     given: Numbers,
@@ -51,19 +50,20 @@ impl Line {
         self.numbers = numbers;
         self.given = given;
         self.call = named_by(call, called.name, QUOTE);
-        self.from = self.each_from;
-        self.to = self.each_to;
         text(line);
         self
     }
 
+    // The next line, which stands from one place to another.
     fn next(mut self, line: &[u8], from: usize, to: usize) -> Self {
         if self.call != NOTHING {
             print_word(END_LINE);
+            self.call = NOTHING;
+            if self.once {
+                self.from = 0;
+                self.to = 0;
+            }
         }
-        self.from = 0;
-        self.to = 0;
-        self.call = NOTHING;
         if line.len() == 0 {
             return self;
         }
@@ -73,16 +73,10 @@ impl Line {
                 text(line);
                 print_word(END_LINE);
             }
-            b'|' => {
-                self.each_from = from;
-                self.each_to = to;
-            }
-            b'>' => {
-                self.each_from = 0;
-                self.each_to = 0;
+            b'|' | b'>' => {
                 self.from = from;
                 self.to = to;
-                self.numbers = Numbers::none();
+                self.once = line[0] == b'>';
             }
             _ => {
                 return self.case(line);
@@ -110,7 +104,6 @@ fn played(book: Book, call: usize, n: Numbers) -> Book {
         return minute_ends(book, (n.first % HALF) as u32, n.second);
     }
     match call {
-        NOTHING => {}
         REPORT => report(book, n.first as usize, n.second as usize, true),
         PRODUCTS => products(),
         _ => row(book),
@@ -118,13 +111,20 @@ fn played(book: Book, call: usize, n: Numbers) -> Book {
     book
 }
 
+// The book after a line, which finds its list of fields here.
+fn after_line(book: Book, list: &[u8], line: Line) -> Book {
+    if line.call == NOTHING {
+        return book;
+    }
+    played(made_book(book, list, line.numbers), line.call, line.given)
+}
+
 pub fn run(script: &[u8]) {
     let mut book = empty(10);
     let mut line = Line {
         from: 0,
         to: 0,
-        each_from: 0,
-        each_to: 0,
+        once: false,
         numbers: Numbers::none(),
         call: NOTHING,
         given: Numbers::none(),
@@ -135,8 +135,7 @@ pub fn run(script: &[u8]) {
         let next = i + 1;
         if script[i] == b'\n' {
             line = line.next(part(script, start, i), start, i);
-            let list = part(script, line.from, line.to);
-            book = played(made_book(book, list, line.numbers), line.call, line.given);
+            book = after_line(book, part(script, line.from, line.to), line);
             start = next;
         }
         i = next;

@@ -13,10 +13,10 @@ const NAMES: [u8; 291] =
     account|opened|both markets|valid minutes|\
     quote|trade|halt|resume|minute end|fix|close|opening|minute ends of|report to|products|";
 // What else is printed.
-const TEXTS: [u8; 212] =
+const TEXTS: [u8; 214] =
     *b"\n| |/|=|; |; not |; account |: accepted|: refused |, same book|, BOOK CHANGED|:|\
     , price | rate | amount | valid | of size | and |, clamp |, spread limit |\
-    ; positions|; cash| unchanged|NO SUCH FIELD: |NO NUMBER: |";
+    ; positions|; cash| unchanged|NO SUCH FIELD: |NO NUMBER: |-|";
 // The calls of a row.
 const ROW: [u8; 108] =
     *b"quote 200100/200300|trade 1 2 kind 0 quantity 1 price 200200|halt|resume|minute end 200000|fix 200200|close|";
@@ -70,6 +70,8 @@ pub const UNCHANGED: usize = 22;
 pub const NO_FIELD: usize = 23;
 
 pub const NO_NUMBER: usize = 24;
+
+pub const MINUS: usize = 25;
 
 // The part of a text from one place to another; nothing where there is no such part.
 pub fn part(s: &[u8], from: usize, to: usize) -> &[u8] {

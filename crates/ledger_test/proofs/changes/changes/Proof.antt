@@ -5,25 +5,19 @@ use Rattle.ledger_test.proofs.changes.changes.Statement.{statement}
 use Rattle.ledger_test.proofs.changes.changes.Tie as tie
 
 abbrev Inv-loop : tie.InvT-loop
-Inv-loop before after shown last₀ i₀ last i = Unit {0}
+Inv-loop before after shown changed₀ i₀ changed i = Unit {0}
 
 abbrev μ-loop : tie.MeasureT-loop
-μ-loop before after shown last₀ i₀ last i = 1296 - i
+μ-loop before after shown changed₀ i₀ changed i = 1296 - i
 
 loop-holds : tie.Need-loop-holds Inv-loop μ-loop
 loop-holds c = search needs
 
-account-of-requires : tie.Need-account-of-requires Inv-loop μ-loop
-account-of-requires c κs = search needs
+number-at-requires : tie.Need-number-at-requires Inv-loop μ-loop
+number-at-requires c κs = search needs
 
-field-of-requires : tie.Need-field-of-requires Inv-loop μ-loop
-field-of-requires c κs = search needs
-
-value-requires : tie.Need-value-requires Inv-loop μ-loop
-value-requires c κs = search needs
-
-value-requires-2 : tie.Need-value-requires-2 Inv-loop μ-loop
-value-requires-2 c κs = search needs
+number-at-requires-2 : tie.Need-number-at-requires-2 Inv-loop μ-loop
+number-at-requires-2 c κs = search needs
 
 change-requires : tie.Need-change-requires Inv-loop μ-loop
 change-requires c κs = search needs
@@ -47,10 +41,8 @@ changes-spec =
     Inv-loop
     μ-loop
     loop-holds
-    account-of-requires
-    field-of-requires
-    value-requires
-    value-requires-2
+    number-at-requires
+    number-at-requires-2
     change-requires
     add-i
     loop-less

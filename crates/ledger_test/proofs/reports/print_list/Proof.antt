@@ -1,33 +1,35 @@
 -- `ledger_test::reports::print_list` is safe and ends: the entries left fall. Assumes nothing.
 use borrow.Author.Needs.{needs}
 use Prim.Native.Nat.{_-_}
-use lib.ListN.{length}
 use Rattle.ledger_test.proofs.reports.print_list.Statement.{statement}
 use Rattle.ledger_test.proofs.reports.print_list.Tie as tie
 
 abbrev Inv-loop : tie.InvT-loop
-Inv-loop name list most i₀ i = Unit {0}
+Inv-loop name list length refused usual i₀ i = Unit {0}
 
 abbrev μ-loop : tie.MeasureT-loop
-μ-loop name list most i₀ i = length list - i
+μ-loop name list length refused usual i₀ i = 257 - i
 
 print-word-requires : tie.Need-print-word-requires Inv-loop μ-loop
 print-word-requires c κs = search needs
 
-usual-requires : tie.Need-usual-requires Inv-loop μ-loop
-usual-requires c κs = search needs
-
 loop-holds : tie.Need-loop-holds Inv-loop μ-loop
 loop-holds c = search needs
 
-mul-print-entry : tie.Need-mul-print-entry Inv-loop μ-loop
-mul-print-entry c = search needs
+mul-entry : tie.Need-mul-entry Inv-loop μ-loop
+mul-entry c = search needs
 
-shared-slice-copy-out-print-entry : tie.Need-shared-slice-copy-out-print-entry Inv-loop μ-loop
-shared-slice-copy-out-print-entry c = search needs
+element-copy-out-entry : tie.Need-element-copy-out-entry Inv-loop μ-loop
+element-copy-out-entry c = search needs
 
-print-entry-requires : tie.Need-print-entry-requires Inv-loop μ-loop
-print-entry-requires c κs = search needs
+print-after-requires : tie.Need-print-after-requires Inv-loop μ-loop
+print-after-requires c κs = search needs
+
+of-signed-requires : tie.Need-of-signed-requires Inv-loop μ-loop
+of-signed-requires c κs = search needs
+
+print-after-requires-2 : tie.Need-print-after-requires-2 Inv-loop μ-loop
+print-after-requires-2 c κs = search needs
 
 add-i : tie.Need-add-i Inv-loop μ-loop
 add-i c = search needs
@@ -54,11 +56,12 @@ print-list-spec =
     Inv-loop
     μ-loop
     print-word-requires
-    usual-requires
     loop-holds
-    mul-print-entry
-    shared-slice-copy-out-print-entry
-    print-entry-requires
+    mul-entry
+    element-copy-out-entry
+    print-after-requires
+    of-signed-requires
+    print-after-requires-2
     add-i
     loop-less
     loop-again

@@ -7,17 +7,32 @@ use Rattle.ledger_test.proofs.reports.report.Tie as tie
 array-borrow-prefix-positions : tie.Need-array-borrow-prefix-positions
 array-borrow-prefix-positions c = search needs
 
-slice-aggregate-report-to : tie.Need-slice-aggregate-report-to
-slice-aggregate-report-to c = search (needs, length-take-le)
+slice-aggregate-report : tie.Need-slice-aggregate-report
+slice-aggregate-report c = search (needs, length-take-le)
 
 array-borrow-prefix-cash : tie.Need-array-borrow-prefix-cash
 array-borrow-prefix-cash c = search needs
 
-slice-aggregate-report-to-2 : tie.Need-slice-aggregate-report-to-2
-slice-aggregate-report-to-2 c = search (needs, length-take-le)
+slice-aggregate-report-2 : tie.Need-slice-aggregate-report-2
+slice-aggregate-report-2 c = search (needs, length-take-le)
 
-report-to-requires : tie.Need-report-to-requires
-report-to-requires c κs = search needs
+report-requires : tie.Need-report-requires
+report-requires c κs = search needs
+
+print-code-requires : tie.Need-print-code-requires
+print-code-requires c κs = search needs
+
+print-list-requires : tie.Need-print-list-requires
+print-list-requires c κs = search needs
+
+print-list-requires-2 : tie.Need-print-list-requires-2
+print-list-requires-2 c κs = search needs
+
+cast-print-after : tie.Need-cast-print-after
+cast-print-after c = search needs
+
+print-after-requires : tie.Need-print-after-requires
+print-after-requires c κs = search needs
 
 returns : tie.Need-returns
 returns c = search needs
@@ -28,15 +43,24 @@ returns-2 c = search needs
 returns-3 : tie.Need-returns-3
 returns-3 c = search needs
 
+returns-4 : tie.Need-returns-4
+returns-4 c = search needs
+
 pub report-spec : {M : Type 1} → statement M
 report-spec =
     tie.close
     (tie.spec
     array-borrow-prefix-positions
-    slice-aggregate-report-to
+    slice-aggregate-report
     array-borrow-prefix-cash
-    slice-aggregate-report-to-2
-    report-to-requires
+    slice-aggregate-report-2
+    report-requires
+    print-code-requires
+    print-list-requires
+    print-list-requires-2
+    cast-print-after
+    print-after-requires
     returns
     returns-2
-    returns-3)
+    returns-3
+    returns-4)

@@ -6,10 +6,10 @@ use Rattle.ledger_test.proofs.script.run.Statement.{statement}
 use Rattle.ledger_test.proofs.script.run.Tie as tie
 
 abbrev Inv-loop : tie.InvT-loop
-Inv-loop script book₀ line₀ start₀ i₀ t8 book line start i = Unit {0}
+Inv-loop script book₀ line₀ start₀ i₀ t7 book line start i = Unit {0}
 
 abbrev μ-loop : tie.MeasureT-loop
-μ-loop script book₀ line₀ start₀ i₀ t8 book line start i = length script - i
+μ-loop script book₀ line₀ start₀ i₀ t7 book line start i = length script - i
 
 empty-requires : tie.Need-empty-requires Inv-loop μ-loop
 empty-requires c κs = search needs
@@ -38,11 +38,8 @@ next-requires c κs = search needs
 part-requires-2 : tie.Need-part-requires-2 Inv-loop μ-loop
 part-requires-2 c κs = search needs
 
-made-book-requires : tie.Need-made-book-requires Inv-loop μ-loop
-made-book-requires c κs = search needs
-
-played-requires : tie.Need-played-requires Inv-loop μ-loop
-played-requires c κs = search needs
+after-line-requires : tie.Need-after-line-requires Inv-loop μ-loop
+after-line-requires c κs = search needs
 
 loop-less : tie.Need-loop-less Inv-loop μ-loop
 loop-less c = search needs
@@ -80,8 +77,7 @@ run-spec =
     part-requires
     next-requires
     part-requires-2
-    made-book-requires
-    played-requires
+    after-line-requires
     loop-less
     loop-again
     loop-less-2
