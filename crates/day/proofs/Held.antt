@@ -3,25 +3,22 @@
 --     size-is, size-most             the size
 --     held-market                    a market's sides
 -- Assumes nothing.
-use mathlib.Core.Path.{_≡_, refl}
-use mathlib.Core.Bool.{Bool, true, false, _&&_, _||_}
+use mathlib.Core.Path.{_≡_}
+use mathlib.Core.Bool.{true, _&&_, _||_}
 use mathlib.Core.List.{[], _∷_}
-use mathlib.Core.Logic.{_⊎_, inl, inr, ⊎-elim}
 use Prim.Native.Nat.{ℕ, _*_, _≤_}
-use native.Mathlib.Omega.{arith}
 use lib.Dec.{leb, eqb}
 use lib.IntN.{natAbs}
-use borrow.Author.Tests.{le-leb, eqb-true}
+use borrow.Author.Tests.{le-leb}
 use Rattle.integers.specs.Size.{within}
 use Rattle.integers.proofs.Tests.{tests, _and_, each, both-true}
 use Rattle.funding.specs.declared.FinalMinute.{FinalMinute}
 use Rattle.funding.specs.Price.{leastPrice, largestPrice, noneOrPrice, noneOrTicked}
 use Rattle.funding.specs.Minute.{weightedLimit}
 use Rattle.funding.proofs.Prices.{ticked-price}
-use Rattle.day.specs.Types.{Market, Day, Figures}
+use Rattle.day.specs.Types.{Market, Day}
 use Rattle.day.specs.Day.{dayLength, twoSided}
-use Rattle.day.specs.Opening.{hundredth, tenth, isSize}
-use Rattle.day.specs.Limits.{mostDays, minutesHold, uncrossed, marketHolds, minuteMarketHolds, marketsHold, mostAmount, pricesHold, fixHolds, finalHolds, dayHolds, figuresHold}
+use Rattle.day.specs.Limits.{minutesHold, uncrossed, marketHolds, minuteMarketHolds, marketsHold, mostAmount, pricesHold, fixHolds, finalHolds, dayHolds}
 
 -- ---- what is held
 
@@ -35,13 +32,6 @@ pub record HeldDay (d : Day) : Type 0 where
   pub price : noneOrPrice (d .fixed .price) ≡ true
   pub amount : natAbs (d .fixed .amount) ≤ mostAmount
   pub fix : fixHolds d ≡ true
-
-pub record HeldFigures (f : Figures) : Type 0 where
-  pub size : isSize (f .size) ≡ true
-  pub closed : f .closed ≤ mostDays
-  pub price : noneOrPrice (f .previous .price) ≡ true
-  pub index : noneOrPrice (f .previous .index) ≡ true
-  pub day : HeldDay (f .day)
 
 -- the final minute's trades, where the accounts' v add up to so much
 pub record HeldFinal (m : FinalMinute) (volume : ℕ) : Type 0 where
@@ -73,12 +63,6 @@ held-day d h =
       fix = t 3;
     }
 
-pub held-figures : (f : Figures) → figuresHold f ≡ true → HeldFigures f
-unfolding figuresHold
-held-figures f h =
-    let t = each (isSize (f .size)) (leb (f .closed) mostDays ∷ noneOrPrice (f .previous .price) ∷ noneOrPrice (f .previous .index) ∷ dayHolds (f .day) ∷ []) h in
-    record { size = t 0; closed = omega (tests, t 1); price = t 2; index = t 3; day = held-day (f .day) (t 4) }
-
 pub held-final : (m : FinalMinute) (volume : ℕ) → finalHolds m volume ≡ true → HeldFinal m volume
 held-final m volume h =
     let t = each (leb (2 * m .contracts) volume) (leb (leastPrice * m .contracts) (m .gross) ∷ leb (m .gross) (largestPrice * m .contracts) ∷ []) h in
@@ -94,24 +78,10 @@ day-holds d h =
     and (h .last and h .index and h .price and le-leb _ _ (h .amount))
     and h .fix
 
-pub figures-hold : (f : Figures) → HeldFigures f → figuresHold f ≡ true
-unfolding figuresHold
-figures-hold f h = h .size and le-leb _ _ (h .closed) and h .price and h .index and day-holds (f .day) (h .day)
-
 pub final-holds : (m : FinalMinute) (volume : ℕ) → HeldFinal m volume → finalHolds m volume ≡ true
 final-holds m volume h = le-leb _ _ (h .contracts) and le-leb _ _ (h .low) and le-leb _ _ (h .high)
 
 -- ---- what follows
-
-pub size-is : (s : ℕ) → isSize s ≡ true → (s ≡ hundredth) ⊎ (s ≡ tenth)
-size-is s h = by (eqb s hundredth) refl
-  where
-    by : (t : Bool) → eqb s hundredth ≡ t → (s ≡ hundredth) ⊎ (s ≡ tenth)
-    by true e = inl (omega tests)
-    by false e = inr (eqb-true s tenth (rw e at h))
-
-pub size-most : (s : ℕ) → isSize s ≡ true → s ≤ tenth
-size-most s h = ⊎-elim (λ e. omega arith) (λ e. omega arith) (size-is s h)
 
 -- the sides of a market, where there may be none
 pub record HeldMarket (m : Market) : Type 0 where

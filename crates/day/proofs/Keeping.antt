@@ -1,47 +1,41 @@
--- An accepted call leaves figures within their limits: the statement of specs/Outcome.antt.
---     accrues                 what the weighted sum of a valid minute requires
---     price-at, amount-at     the price and the amount of a fix
---     trade-fields            what refusal 5 leaves of a trade's values
---     figures-kept            every call
+-- What a call leaves of a day within its limits, by the parts of the day.
+--     markets-hold, as-minute     the markets
+--     empty-day                   a new day
+--     trade-fields                what refusal 5 leaves of a trade's values
+--     accrues                     what the weighted sum of a valid minute requires
+--     minute-ended                a minute's end
 -- Assumes nothing.
-use mathlib.Core.Path.{_≡_, refl, _∙_, ap}
-use mathlib.Core.Bool.{Bool, true, false, not, cond, _&&_, _||_, or-true}
+use mathlib.Core.Path.{_≡_, refl, ap}
+use mathlib.Core.Bool.{Bool, true, false, not, cond, _&&_, _||_}
 use mathlib.Core.List.{[], _∷_}
 use Prim.Native.Nat.{ℕ, _+_, _*_, _<_, _≤_}
 use native.Mathlib.Nat.{mul-le-mul-left}
 use native.Mathlib.Omega.{arith}
-use lib.Dec.{leb, ltb, eqb}
+use lib.Dec.{ltb, eqb}
 use lib.IntN.{natAbs}
-use borrow.Author.Tests.{eq-eqb, not-false}
+use borrow.Author.Tests.{not-false}
 use Rattle.integers.proofs.Tests.{tests, by-test, _and_, each, none}
-use Rattle.funding.specs.Price.{leastPrice, largestPrice, isPrice, isTicked, isPresent, noneOrPrice, noneOrTicked}
-use Rattle.funding.specs.Terms.{clamp}
-use Rattle.funding.specs.Minute.{withinSpread, futuresPrice, basisOf, accrued, weightedLimit, mostMinutes, Accrues}
-use Rattle.funding.specs.Fixing.{rateOf}
+use Rattle.funding.specs.Price.{leastPrice, largestPrice, isPrice, isTicked, isPresent, noneOrPrice}
+use Rattle.funding.specs.Minute.{withinSpread, futuresPrice, basisOf, accrued, weightedLimit, Accrues}
 use Rattle.funding.specs.declared.Terms.{Terms}
-use Rattle.funding.proofs.Prices.{price-to, none-or-price, the-price, price-most}
-use Rattle.funding.proofs.Bounds.{basis-size, futures-is-price, accrued-size, clamped-size, amount-size, settlement-is-price}
-use Rattle.day.specs.Types.{Market, Trade, Call, Day, Figures}
-use Rattle.day.specs.declared.call.Call.the-variants as call
-use Rattle.day.specs.Day.{dayLength, termsOn, tieOn, noMarket, emptyDay, isFixed, twoSided, inLastMinute, simple, block, asMinute, isValid, minuteOf}
-use Rattle.day.specs.Effects.{withMarkets, quoted, traded, minuteEnded, withMinutes, withTrades, withFixed, nextMinute, fixPrice, fixRate, fixAmount, fixedAt, figuresAfter}
-use Rattle.day.specs.Opening.{tenth}
-use Rattle.day.specs.Limits.{mostDays, mostAmount, uncrossed, marketHolds, minuteMarketHolds, marketsHold, dayHolds}
-use Rattle.day.specs.Refusals.{isFull, dayForbids, mostQuantity, leastBlock, tradeOutside, noAccounts, Accounts}
-use Rattle.day.specs.Outcome.{FiguresKept}
-use Rattle.day.proofs.Held.{HeldDay, HeldFigures, HeldFinal, held-day, held-figures, held-final, figures-hold, size-most, held-minute}
-use Rattle.day.proofs.Passed.{Passed, passed}
+use Rattle.funding.proofs.Prices.{price-to, the-price}
+use Rattle.funding.proofs.Bounds.{basis-size, futures-is-price, accrued-size}
+use Rattle.day.specs.Types.{Market, Trade, Day}
+use Rattle.day.specs.Day.{dayLength, noMarket, emptyDay, isFixed, twoSided, inLastMinute, simple, block, asMinute, isValid, minuteOf, mostQuantity, leastBlock, tradeOutside}
+use Rattle.day.specs.Effects.{withMarkets, minuteEnded, withMinutes, nextMinute}
+use Rattle.day.specs.Limits.{marketHolds, minuteMarketHolds, marketsHold, dayHolds}
+use Rattle.day.proofs.Held.{HeldDay, held-day, held-minute}
 
 -- ---- the parts of a day
 
-markets-hold : (standing minute : Market) → marketHolds standing ≡ true → minuteMarketHolds minute ≡ true → marketsHold (record { standing = standing; minute = minute }) ≡ true
+pub markets-hold : (standing minute : Market) → marketHolds standing ≡ true → minuteMarketHolds minute ≡ true → marketsHold (record { standing = standing; minute = minute }) ≡ true
 markets-hold standing minute s m = s and m
 
 pub empty-day : HeldDay emptyDay
 unfolding dayHolds
 empty-day = held-day emptyDay refl
 
-as-minute : (m other : Market) → marketHolds m ≡ true → minuteMarketHolds other ≡ true → minuteMarketHolds (asMinute m other) ≡ true
+pub as-minute : (m other : Market) → marketHolds m ≡ true → minuteMarketHolds other ≡ true → minuteMarketHolds (asMinute m other) ≡ true
 as-minute m other hm ho =
     by-test (twoSided m) (λ x. minuteMarketHolds x ≡ true) (λ e. hm and ap (λ t. t || (eqb (m .bid) 0 && eqb (m .offer) 0)) e) (λ e. ho)
 
@@ -82,7 +76,7 @@ module _ (d : Day) (h : HeldDay d) (t : Terms) (halted : Bool) (u : ℕ) (before
       let i = price-to u (the-price u (v 2) hu) in
       record { sum = h .weighted; count = omega (arith, h .valid); size = basis-size F u (i .0) (i .1) (f .0) (f .1) }
 
-  minute-ended : isFixed d ≡ false → HeldDay (withMinutes (withMarkets d (nextMinute (d .markets))) (minuteEnded d valid u))
+  pub minute-ended : isFixed d ≡ false → HeldDay (withMinutes (withMarkets d (nextMinute (d .markets))) (minuteEnded d valid u))
   minute-ended unfixed =
       let standing = each (marketHolds (d .markets .standing)) (minuteMarketHolds (d .markets .minute) ∷ []) (h .markets) 0 in
       record {
@@ -100,99 +94,3 @@ module _ (d : Day) (h : HeldDay d) (t : Terms) (halted : Bool) (u : ℕ) (before
       sums : (v : Bool) → valid ≡ v → (cond v (d .minutes .valid + 1) (d .minutes .valid) ≤ d .minutes .ended + 1) × (natAbs (cond v (accrued (d .minutes .weighted) (d .minutes .valid) (basisOf (minuteOf (d .markets .minute) (d .trades .last) u .F) u)) (d .minutes .weighted)) ≤ weightedLimit (cond v (d .minutes .valid + 1) (d .minutes .valid)))
       sums true e = (omega (arith, h .valid), accrued-size (d .minutes .weighted) (d .minutes .valid) (basisOf (minuteOf (d .markets .minute) (d .trades .last) u .F) u) (accrues e))
       sums false e = (omega (arith, h .valid), h .weighted)
-
--- ---- a fix
-
--- the clamped rate
-pub rate-size : (f : Figures) → natAbs (fixRate f) ≤ clamp
-rate-size f = clamped-size (termsOn f) (rateOf (f .day .minutes .valid) (f .day .minutes .weighted)) clamp (omega arith) (omega arith)
-
-module _ (f : Figures) (h : HeldFigures f) (volume : ℕ) (final : HeldFinal (f .day .trades .settling) volume) (set : ℕ) (hs : noneOrPrice set ≡ true) where
-  pub price-at : noneOrPrice (fixPrice f set) ≡ true
-  price-at = settlement-is-price set (f .day .trades .settling) (f .day .minutes .index) (f .previous) hs (final .low) (final .high)
-
-  pub amount-at : natAbs (fixAmount f set) ≤ mostAmount
-  amount-at =
-      amount-size (fixRate f) (fixPrice f set) (f .size) clamp largestPrice tenth (rate-size f) (price-most (fixPrice f set) price-at) (size-most (f .size) (h .size))
-      (tieOn f) mostAmount (omega arith)
-
-  day-fixed : dayLength (f .day) ≤ f .day .minutes .ended → HeldDay (withFixed (f .day) (fixedAt f set))
-  day-fixed ended =
-      let d = h .day in
-      record {
-        ended = d .ended;
-        valid = d .valid;
-        weighted = d .weighted;
-        markets = d .markets;
-        last = d .last;
-        index = d .index;
-        price = price-at;
-        amount = amount-at;
-        fix = ap (λ t. not (isPresent (fixPrice f set)) || t) (eq-eqb (f .day .minutes .ended) (dayLength (f .day)) (omega (arith, d .ended))) ∙ or-true (not (isPresent (fixPrice f set)));
-      }
-
--- ---- the calls
-
-module _ (f : Figures) (a : Accounts) (h : HeldFigures f) where
-  abbrev d : Day
-  d = f .day
-
-  -- with another day
-  with-day : {x : Figures} → x .size ≡ f .size → x .closed ≡ f .closed → x .previous ≡ f .previous → HeldDay (x .day) → HeldFigures x
-  with-day {x} size closed previous day = record { size = rw size (h .size); closed = rw closed (h .closed); price = rw previous (h .price); index = rw previous (h .index); day = day }
-
-  -- what a minute end or a fix passed
-  allowed : {c : Call} → Passed f c a → dayForbids (f .day) c ≡ false
-  allowed {c} p = none (isFull f) (dayForbids (f .day) c ∷ []) (p .day) 1
-
-  with-markets : (m : _) → marketsHold m ≡ true → HeldDay (withMarkets d m)
-  with-markets m hm =
-      let x = h .day in
-      record { ended = x .ended; valid = x .valid; weighted = x .weighted; markets = hm; last = x .last; index = x .index; price = x .price; amount = x .amount; fix = x .fix }
-
-  quote-kept : (m : Market) → Passed f (call.Quote m) a → HeldFigures (figuresAfter f (call.Quote m))
-  unfolding figuresAfter
-  quote-kept m p =
-      let sides : marketHolds m ≡ true = not-false (noneOrTicked (m .bid) && noneOrTicked (m .offer)) (p .field) and not-false (uncrossed m) (p .market) in
-      let minute = each (marketHolds (d .markets .standing)) (minuteMarketHolds (d .markets .minute) ∷ []) (h .day .markets) 1 in
-      with-day refl refl refl (with-markets (quoted (d .markets) m) (markets-hold m (asMinute m (d .markets .minute)) sides (as-minute m (d .markets .minute) sides minute)))
-
-  trade-kept : (t : Trade) → Passed f (call.Trade t) a → HeldFigures (figuresAfter f (call.Trade t))
-  unfolding figuresAfter
-  trade-kept t p =
-      let x = h .day in
-      let last = none-or-price (t .price) (trade-fields t (p .field) .price) in
-      with-day refl refl refl
-      (record { ended = x .ended; valid = x .valid; weighted = x .weighted; markets = x .markets; last = last; index = x .index; price = x .price; amount = x .amount; fix = x .fix })
-
-  minute-end-kept : (u : ℕ) → Passed f (call.MinuteEnd u) a → HeldFigures (figuresAfter f (call.MinuteEnd u))
-  unfolding figuresAfter
-  minute-end-kept u p =
-      let t = none (leb (dayLength d) (d .minutes .ended)) (isFixed d ∷ []) (allowed p) in
-      with-day refl refl refl (minute-ended d (h .day) (termsOn f) (f .halted) u (omega (tests, t 0)) (not-false (noneOrPrice u) (p .field)) (t 1))
-
-  fix-kept : (volume set : ℕ) → HeldFinal (d .trades .settling) volume → Passed f (call.Fix set) a → HeldFigures (figuresAfter f (call.Fix set))
-  unfolding figuresAfter
-  fix-kept volume set final p =
-      let t = none (ltb (d .minutes .ended) (dayLength d)) (isFixed d ∷ []) (allowed p) in
-      with-day refl refl refl (day-fixed f h volume final set (not-false (noneOrPrice set) (p .field)) (omega (tests, t 0)))
-
-  close-kept : Passed f call.Close a → HeldFigures (figuresAfter f call.Close)
-  unfolding figuresAfter
-  close-kept p =
-      let t = none (leb mostDays (f .closed)) (dayForbids (f .day) call.Close ∷ []) (p .day) in
-      record { size = h .size; closed = omega (tests, t 0); price = h .day .price; index = h .day .index; day = empty-day }
-
-  pub held-after : (c : Call) (volume : ℕ) → HeldFinal (d .trades .settling) volume → Passed f c a → HeldFigures (figuresAfter f c)
-  unfolding figuresAfter
-  held-after (call.Quote m) volume final p = quote-kept m p
-  held-after (call.Trade t) volume final p = trade-kept t p
-  held-after call.Halt volume final p = with-day refl refl refl (with-markets (record { standing = noMarket; minute = noMarket }) refl)
-  held-after call.Resume volume final p = with-day refl refl refl (h .day)
-  held-after (call.MinuteEnd u) volume final p = minute-end-kept u p
-  held-after (call.Fix set) volume final p = fix-kept volume set final p
-  held-after call.Close volume final p = close-kept p
-
-pub figures-kept : FiguresKept
-figures-kept f c v h final r =
-    figures-hold (figuresAfter f c) (held-after f noAccounts (held-figures f h) c v (held-final (f .day .trades .settling) v final) (passed f c noAccounts r))

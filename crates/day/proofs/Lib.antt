@@ -1,5 +1,3 @@
 pub mod Calls
 pub mod Held
-pub mod Passed
-pub mod Outcomes
 pub mod Keeping

@@ -1,29 +1,17 @@
 -- A trade date by its parts, the numbers in force on it, and the rules of its minutes.
-use mathlib.Core.Bool.{Bool, not, cond, _&&_}
+use mathlib.Core.Bool.{Bool, not, cond, _&&_, _||_}
 use Prim.Native.Nat.{ℕ, _+_, _*_}
-use lib.Dec.{eqb}
+use lib.Dec.{leb, ltb, eqb}
 use lib.IntN.{pos}
-use Rattle.integers.specs.declared.Tie.{Tie}
-use Rattle.integers.specs.declared.Tie.the-variants.{Even}
 use Rattle.funding.specs.declared.Terms.{Terms}
 use Rattle.funding.specs.declared.FinalMinute.{FinalMinute}
-use Rattle.funding.specs.Price.{isPresent}
-use Rattle.funding.specs.Terms.{standardTerms}
+use Rattle.funding.specs.Price.{isPrice, isTicked, isPresent}
 use Rattle.funding.specs.Minute.{Minute, withinSpread, futuresPrice, mostMinutes}
-use Rattle.day.specs.Types.{Market, Markets, Trade, Day, Figures}
-
--- ---- the numbers in force on the open day
+use Rattle.day.specs.Types.{Market, Markets, Trade, Day}
 
 -- its minutes: document 01's on every day
 abbrev pub dayLength : Day → ℕ
 dayLength d = mostMinutes
-
--- its terms and its rule for ties: document 01's on every day
-abbrev pub termsOn : Figures → Terms
-termsOn f = standardTerms
-
-abbrev pub tieOn : Figures → Tie
-tieOn f = Even
 
 -- ---- its parts
 
@@ -85,3 +73,24 @@ isValid t halted m u = not halted && twoSided m && isPresent u && withinSpread t
 -- the minute that ends with this market, last trade and index
 abbrev pub minuteOf : Market → ℕ → ℕ → Minute
 minuteOf m last u = record { F = futuresPrice (m .bid) (m .offer) last; u = u }
+
+-- 3: "a minute end after 1,320 or after a fix; a fix before 1,320 or twice"
+abbrev pub forbidsMinuteEnd : Day → Bool
+forbidsMinuteEnd d = leb (dayLength d) (d .minutes .ended) || isFixed d
+
+abbrev pub forbidsFix : Day → Bool
+forbidsFix d = ltb (d .minutes .ended) (dayLength d) || isFixed d
+
+-- ---- the values of a trade
+
+-- 5: "kind above 2; quantity 0, above 100,000, or below 250 for kind 2; a price no price; … a kind 0 price not ticked"
+abbrev pub mostQuantity : ℕ
+mostQuantity = 100000
+
+abbrev pub leastBlock : ℕ
+leastBlock = 250
+
+abbrev pub tradeOutside : Trade → Bool
+tradeOutside t =
+    ltb block (t .kind) || eqb (t .quantity) 0 || ltb mostQuantity (t .quantity) || (eqb (t .kind) block && ltb (t .quantity) leastBlock)
+    || not (isPrice (t .price)) || (eqb (t .kind) simple && not (isTicked (t .price)))

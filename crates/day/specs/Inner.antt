@@ -3,12 +3,9 @@ use mathlib.Core.Path.{_≡_}
 use mathlib.Core.Bool.{Bool, true}
 use Prim.Native.Nat.{ℕ, _+_, _*_, _<_, _≤_, _^_}
 use Rattle.funding.specs.declared.FinalMinute.{FinalMinute}
-use Rattle.funding.specs.Price.{largestPrice}
 use Rattle.funding.specs.Minute.{basisOf, mostMinutes, Accrues}
-use Rattle.day.specs.Types.{Trade, Day, Figures, Fixing, Outcome}
+use Rattle.day.specs.Types.{Trade, Day}
 use Rattle.day.specs.Day.{minuteOf}
-use Rattle.day.specs.Effects.{withDay}
-use Rattle.day.specs.Opening.{tenth}
 
 -- n and the gross have room for a trade
 pub record RoomForTrade (m : FinalMinute) (t : Trade) : Type 0 where
@@ -21,12 +18,3 @@ pub record Endable (d : Day) (valid : Bool) (u : ℕ) : Type 0 where
   pub count : d .minutes .valid ≤ mostMinutes
   pub present : valid ≡ true → 0 < u
   pub accrues : valid ≡ true → Accrues (d .minutes .weighted) (d .minutes .valid) (basisOf (minuteOf (d .markets .minute) (d .trades .last) u .F) u)
-
--- the figures of a fix fit
-pub record Fixable (f : Figures) : Type 0 where
-  pub gross : f .day .trades .settling .gross ≤ largestPrice * f .day .trades .settling .contracts
-  pub size : f .size ≤ tenth
-
--- no refusal, with what a fix found
-abbrev pub changed : Figures → Bool → Day → Fixing → Outcome
-changed f halted d x = record { code = 0; fixing = x; figures = withDay f halted d }

@@ -2,8 +2,5 @@ pub mod Types
 pub mod Calls
 pub mod Day
 pub mod Effects
-pub mod Opening
 pub mod Limits
-pub mod Refusals
-pub mod Outcome
 pub mod Inner

@@ -1,4 +1,4 @@
--- The limits on what a book holds beside its account columns, in document 01's order.
+-- The limits on a day, in document 01's order.
 use mathlib.Core.Bool.{Bool, not, _&&_, _||_}
 use Prim.Native.Nat.{ℕ, _*_}
 use lib.Dec.{leb, ltb, eqb}
@@ -6,13 +6,8 @@ use Rattle.integers.specs.Size.{within}
 use Rattle.funding.specs.declared.FinalMinute.{FinalMinute}
 use Rattle.funding.specs.Price.{leastPrice, largestPrice, noneOrPrice, noneOrTicked}
 use Rattle.funding.specs.Minute.{weightedLimit}
-use Rattle.day.specs.Types.{Market, Markets, Day, Figures}
+use Rattle.day.specs.Types.{Market, Markets, Day}
 use Rattle.day.specs.Day.{dayLength, twoSided, isFixed}
-use Rattle.day.specs.Opening.{isSize}
-
--- 01: "closed days 0 to 2,600"
-abbrev pub mostDays : ℕ
-mostDays = 2600
 
 -- 01: "ended minutes 0 to 1,320; valid count k at most the ended minutes; weighted sum S at most 9,999 × 10^9 × k(k+1)/2 in size"
 abbrev pub minutesHold : Day → Bool
@@ -51,7 +46,3 @@ fixHolds d = not (isFixed d) || eqb (d .minutes .ended) (dayLength d)
 
 unfoldable pub dayHolds : Day → Bool
 dayHolds d = minutesHold d && marketsHold (d .markets) && pricesHold d && fixHolds d
-
--- 01: "size 1 or 10; closed days 0 to 2,600; … previous price, previous index … 0 or a price"
-unfoldable pub figuresHold : Figures → Bool
-figuresHold f = isSize (f .size) && leb (f .closed) mostDays && noneOrPrice (f .previous .price) && noneOrPrice (f .previous .index) && dayHolds (f .day)

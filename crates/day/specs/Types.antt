@@ -7,6 +7,3 @@ pub use Rattle.day.specs.declared.Minutes.{Minutes}
 pub use Rattle.day.specs.declared.Trades.{Trades}
 pub use Rattle.day.specs.declared.Fixed.{Fixed}
 pub use Rattle.day.specs.declared.Day.{Day}
-pub use Rattle.day.specs.declared.figures.Figures.{Figures}
-pub use Rattle.day.specs.declared.outcome.Fixing.{Fixing}
-pub use Rattle.day.specs.declared.outcome.Outcome.{Outcome}

@@ -3,13 +3,11 @@ ghost use mathlib.Core.Path.{_≡_};
 ghost use mathlib.Core.Bool.{cond};
 ghost use Prim.Native.Nat.{_+_, _≤_};
 ghost use Rattle.funding.specs.Minute.{mostMinutes};
-ghost use Rattle.day.specs.Day.{dayLength, noMarkets, emptyDay, inLastMinute};
+ghost use Rattle.day.specs.Day.{dayLength, noMarkets, emptyDay, inLastMinute, forbidsMinuteEnd, forbidsFix};
 ghost use Rattle.day.specs.Limits.{minutesHold, dayHolds};
-ghost use Rattle.day.specs.Effects.{withMarkets, withMinutes, withTrades, withFixed};
-ghost use Rattle.day.specs.Effects.{weightedAfter, minuteEnded, nextMinute};
+ghost use Rattle.day.specs.Effects.{withMarkets, withMinutes, withTrades, withFixed, weightedAfter, minuteEnded, nextMinute};
 ghost use Rattle.day.specs.Effects.{quoted as Effects·quoted};
 ghost use Rattle.day.specs.Effects.{traded as Effects·traded};
-ghost use Rattle.day.specs.Refusals.{forbidsMinuteEnd, forbidsFix};
 ghost use Rattle.day.specs.Inner.{RoomForTrade, Endable};
 use funding::FinalMinute;
 use funding::MOST_MINUTES;
@@ -20,13 +18,8 @@ use market::Markets;
 use trade::Trade;
 
 pub mod call;
-pub mod figures;
 pub mod market;
-pub mod outcome;
-pub mod product;
 pub mod trade;
-
-pub const MOST_DAYS: u32 = 2_600;
 
 pub const MOST_AMOUNT: u64 = 10_000;
 
@@ -64,7 +57,7 @@ pub struct Day {
 }
 
 impl Day {
-    pub(crate) fn empty() -> Self
+    pub fn empty() -> Self
         ensures { λ r. ⌜ r ≡ emptyDay ⌝ }
     {
         Self {
@@ -90,7 +83,7 @@ impl Day {
     }
 
     // The minutes of the day.
-    pub(crate) fn length(self) -> u32
+    fn length(self) -> u32
         ensures { λ r. ⌜ r ≡ dayLength self ⌝ }
     {
         MOST_MINUTES
@@ -114,7 +107,7 @@ impl Day {
     }
 
     // Whether the day is within its limits.
-    pub(crate) fn holds(self) -> bool
+    pub fn holds(self) -> bool
         ensures { λ r. ⌜ r ≡ dayHolds self ⌝ }
     {
         let prices = none_or_price(self.trades.last)
@@ -126,26 +119,26 @@ impl Day {
     }
 
     // 3: whether a minute end, or a fix, comes at a time that the day doesn't allow.
-    pub(crate) fn forbids_minute_end(self) -> bool
+    pub fn forbids_minute_end(self) -> bool
         ensures { λ r. ⌜ r ≡ forbidsMinuteEnd self ⌝ }
     {
         (self.length() <= self.minutes.ended) | (self.fixed.price != 0)
     }
 
-    pub(crate) fn forbids_fix(self) -> bool
+    pub fn forbids_fix(self) -> bool
         ensures { λ r. ⌜ r ≡ forbidsFix self ⌝ }
     {
         (self.minutes.ended < self.length()) | (self.fixed.price != 0)
     }
 
-    pub(crate) fn quoted(mut self, market: Market) -> Day
+    pub fn quoted(mut self, market: Market) -> Day
         ensures { λ r. ⌜ r ≡ withMarkets self (Effects·quoted (self .markets) market) ⌝ }
     {
         self.markets = self.markets.quoted(market);
         self
     }
 
-    pub(crate) fn without_markets(mut self) -> Day
+    pub fn without_markets(mut self) -> Day
         ensures { λ r. ⌜ r ≡ withMarkets self noMarkets ⌝ }
     {
         self.markets = Markets::none();
@@ -153,7 +146,7 @@ impl Day {
     }
 
     // Room for the trade in n and in the gross is required.
-    pub(crate) fn traded(self, t: Trade) -> Day
+    pub fn traded(self, t: Trade) -> Day
         requires { ⌜ RoomForTrade (self .trades .settling) t ⌝ }
         ensures { λ r. ⌜ r ≡ withTrades self (Effects·traded self t) ⌝ }
     {
@@ -209,7 +202,7 @@ impl Day {
         }
     }
 
-    pub(crate) fn minute_ended(mut self, valid: bool, index: u32) -> Day
+    pub fn minute_ended(mut self, valid: bool, index: u32) -> Day
         requires { ⌜ Endable self valid index ⌝ }
         ensures { λ r. ⌜ r ≡ withMinutes (withMarkets self (nextMinute (self .markets))) (minuteEnded self valid index) ⌝ }
     {
@@ -224,7 +217,7 @@ impl Day {
         self
     }
 
-    pub(crate) fn fixed(mut self, price: u32, amount: i64) -> Day
+    pub fn fixed(mut self, price: u32, amount: i64) -> Day
         ensures { λ r. ⌜ r ≡ withFixed self (record { price = price; amount = amount }) ⌝ }
     {
         let fixed = Fixed { price, amount };

@@ -25,7 +25,7 @@ impl Market {
         (self.bid != 0) & (self.offer != 0)
     }
 
-    pub(crate) fn is_uncrossed(self) -> bool
+    pub fn is_uncrossed(self) -> bool
         ensures { λ r. ⌜ r ≡ uncrossed self ⌝ }
     {
         !((self.bid != 0) & (self.offer != 0)) | (self.bid < self.offer)
@@ -39,7 +39,7 @@ impl Market {
     }
 
     // Whether the minute that ends with this market and this index is valid.
-    pub(crate) fn is_valid(self, halted: bool, index: u32, terms: Terms) -> bool
+    pub fn is_valid(self, halted: bool, index: u32, terms: Terms) -> bool
         ensures { λ r. ⌜ r ≡ isValid terms halted self index ⌝ }
     {
         if halted {

@@ -1,6 +1,6 @@
 // A trade, and the fields of its values.
 ghost use mathlib.Core.Path.{_≡_};
-ghost use Rattle.day.specs.Refusals.{tradeOutside};
+ghost use Rattle.day.specs.Day.{tradeOutside};
 
 pub const MOST_QUANTITY: u32 = 100_000;
 
@@ -23,7 +23,7 @@ impl Trade {
     pub const BLOCK: u8 = 2;
 
     // Whether a value other than an account is outside its field.
-    pub(crate) fn is_outside(self) -> bool
+    pub fn is_outside(self) -> bool
         ensures { λ r. ⌜ r ≡ tradeOutside self ⌝ }
     {
         if (self.quantity == 0) | (MOST_QUANTITY < self.quantity) {

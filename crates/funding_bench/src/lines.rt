@@ -1,5 +1,5 @@
 // The lines of the printout.
-use day::outcome::Fixing;
+use figures::outcome::Fixing;
 use ledger::ACCOUNTS;
 use ledger::Book;
 use libc::STDOUT_FILENO;

@@ -12,8 +12,8 @@ use Rattle.funding.specs.Price.{isPresent}
 use Rattle.day.specs.declared.call.Call.{Call}
 use Rattle.day.specs.declared.call.Call.the-variants as call
 use Rattle.day.specs.Calls.{onFix, onClose}
-use Rattle.day.specs.Effects.{fixPrice}
-use Rattle.day.specs.Refusals.{isFull, dayForbids}
+use Rattle.figures.specs.Effects.{fixPrice}
+use Rattle.figures.specs.Refusals.{isFull, dayForbids}
 use Rattle.day.proofs.Calls.{FixOr, fix, CloseOr, close, fix-or, close-or, on-close-is}
 use Rattle.day.proofs.Calls as calls
 use Rattle.ledger.proofs.Held.{held}

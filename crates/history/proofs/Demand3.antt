@@ -7,7 +7,7 @@ use native.Mathlib.Nat.{suc-ne-zero}
 use lib.IntN.{pos}
 use Rattle.ledger.specs.declared.Book.{Book}
 use Rattle.ledger.specs.Columns.{entry}
-use Rattle.day.specs.Opening.{isSize}
+use Rattle.figures.specs.Figures.{isSize}
 use Rattle.ledger.specs.Opening.{fresh, opening}
 use Rattle.ledger.proofs.Columns.{table-at}
 use Rattle.history.specs.History.{closings}

@@ -14,10 +14,11 @@ use Rattle.funding.specs.Minute.{weightedSum}
 use Rattle.day.specs.declared.trade.Trade.{Trade}
 use Rattle.day.specs.declared.call.Call.{Call}
 use Rattle.day.specs.declared.Day.{Day}
-use Rattle.day.specs.declared.figures.Figures.{Figures}
+use Rattle.figures.specs.declared.Figures.{Figures}
 use Rattle.day.specs.declared.call.Call.the-variants as call
 use Rattle.day.specs.Day.{emptyDay, isFinal, minuteOf}
-use Rattle.day.specs.Effects.{traded, minuteEnded, figuresAfter}
+use Rattle.day.specs.Effects.{traded, minuteEnded}
+use Rattle.figures.specs.Effects.{figuresAfter}
 use Rattle.day.proofs.Calls.{TradeOr, trade, CloseOr, close, trade-or, close-or}
 use Rattle.day.proofs.Calls as calls
 use Rattle.ledger.specs.declared.Book.{Book}

@@ -10,7 +10,7 @@ use Prim.Native.Nat.{ℕ, _+_}
 use native.Mathlib.Omega.{arith}
 use lib.ListN.{length}
 use Rattle.day.specs.declared.call.Call.{Call}
-use Rattle.day.specs.Opening.{isSize}
+use Rattle.figures.specs.Figures.{isSize}
 use Rattle.ledger.specs.declared.Book.{Book}
 use Rattle.ledger.specs.Columns.{accounts}
 use Rattle.ledger.specs.Opening.{opening}

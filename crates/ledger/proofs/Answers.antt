@@ -6,9 +6,9 @@ use mathlib.Core.Path.{_≡_, _∙_, ap}
 use Prim.Native.Nat.{ℕ}
 use borrow.Author.Tests.{ne-eqb}
 use Rattle.day.specs.declared.call.Call.{Call}
-use Rattle.day.specs.declared.outcome.Outcome.{Outcome}
-use Rattle.day.specs.Effects.{fixingOf}
-use Rattle.day.specs.Outcome.{numbered}
+use Rattle.figures.specs.declared.outcome.Outcome.{Outcome}
+use Rattle.figures.specs.Effects.{fixingOf}
+use Rattle.figures.specs.Outcome.{numbered}
 use Rattle.ledger.specs.declared.Book.{Book}
 use Rattle.ledger.specs.declared.Answer.{Answer}
 use Rattle.ledger.specs.Effects.{effect}

@@ -13,8 +13,10 @@ use borrow.Author.Tests.{le-leb}
 use Rattle.integers.specs.Size.{within}
 use Rattle.integers.proofs.Tests.{tests, _and_, each}
 use Rattle.funding.specs.Price.{largestPrice}
-use Rattle.day.specs.Limits.{finalHolds, figuresHold}
-use Rattle.day.proofs.Held.{HeldFigures, HeldFinal, held-figures, held-final, figures-hold, final-holds}
+use Rattle.day.specs.Limits.{finalHolds}
+use Rattle.figures.specs.Figures.{figuresHold}
+use Rattle.figures.proofs.Held.{HeldFigures, held-figures, figures-hold}
+use Rattle.day.proofs.Held.{HeldFinal, held-final, final-holds}
 use Rattle.ledger.specs.declared.Book.{Book}
 use Rattle.ledger.specs.Columns.{entry, countAt, allBelow, sumBelow}
 use Rattle.ledger.specs.Limits.{mostPosition, mostVolume, mostPosting, accountOf, withinLimits}

@@ -13,14 +13,15 @@ use lib.ListN.{length-set, length-replicate}
 use borrow.Author.Tests.{eqb-true}
 use Rattle.integers.proofs.Tests.{by-test}
 use Rattle.day.specs.declared.call.Call.{Call}
-use Rattle.day.specs.declared.figures.Figures.{Figures}
+use Rattle.figures.specs.declared.Figures.{Figures}
 use Rattle.day.specs.declared.call.Call.the-variants as call
-use Rattle.day.specs.Effects.{figuresAfter}
-use Rattle.day.specs.Opening.{isSize}
+use Rattle.figures.specs.Effects.{figuresAfter}
+use Rattle.figures.specs.Figures.{isSize}
 use Rattle.day.specs.Calls.{onTrade}
-use Rattle.day.specs.Refusals.{noAccounts}
-use Rattle.day.proofs.Held.{HeldFigures, HeldFinal}
-use Rattle.day.proofs.Keeping.{held-after}
+use Rattle.figures.specs.Refusals.{noAccounts}
+use Rattle.figures.proofs.Held.{HeldFigures}
+use Rattle.day.proofs.Held.{HeldFinal}
+use Rattle.figures.proofs.Keeping.{held-after}
 use Rattle.ledger.specs.declared.Book.{Book}
 use Rattle.ledger.specs.Columns.{countAt, sumBelow}
 use Rattle.ledger.specs.Opening.{fresh, opening}

@@ -10,12 +10,13 @@ use lib.ListN.{replicate, getD-replicate}
 use Rattle.integers.proofs.Order.{abs-add, abs-sub, abs-mul-le}
 use Rattle.funding.specs.Price.{largestPrice}
 use Rattle.funding.proofs.Prices.{price-most}
-use Rattle.day.specs.declared.figures.Figures.{Figures}
+use Rattle.figures.specs.declared.Figures.{Figures}
 use Rattle.day.specs.Day.{noTrades}
-use Rattle.day.specs.Opening.{isSize}
+use Rattle.figures.specs.Figures.{isSize}
 use Rattle.day.specs.Limits.{mostAmount}
-use Rattle.day.specs.Effects.{closedFigures}
-use Rattle.day.proofs.Held.{HeldFigures, HeldFinal, size-most}
+use Rattle.figures.specs.Effects.{closedFigures}
+use Rattle.figures.proofs.Held.{HeldFigures, size-most}
+use Rattle.day.proofs.Held.{HeldFinal}
 use Rattle.day.proofs.Keeping.{empty-day}
 use Rattle.ledger.specs.declared.Book.{Book}
 use Rattle.ledger.specs.Columns.{entry, countAt}

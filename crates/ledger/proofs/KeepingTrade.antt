@@ -17,10 +17,10 @@ use Rattle.integers.proofs.Order.{abs-neg, abs-add}
 use Rattle.integers.proofs.Tests.{tests, by-test, each}
 use Rattle.funding.specs.Price.{largestPrice}
 use Rattle.day.specs.declared.trade.Trade.{Trade}
-use Rattle.day.specs.declared.figures.Figures.{Figures}
+use Rattle.figures.specs.declared.Figures.{Figures}
 use Rattle.day.specs.declared.call.Call.the-variants as call
 use Rattle.day.specs.Day.{dayLength, isFinal, withTrade}
-use Rattle.day.specs.Effects.{figuresAfter}
+use Rattle.figures.specs.Effects.{figuresAfter}
 use Rattle.day.proofs.Held.{HeldFinal}
 use Rattle.day.proofs.Keeping.{TradeFields, trade-fields}
 use Rattle.ledger.specs.declared.Book.{Book}

@@ -14,13 +14,13 @@ use lib.ListN.{length}
 use Rattle.funding.specs.Price.{largestPrice}
 use Rattle.day.specs.declared.trade.Trade.{Trade}
 use Rattle.day.specs.declared.call.Call.{Call}
-use Rattle.day.specs.declared.figures.Figures.{Figures}
-use Rattle.day.specs.declared.outcome.Outcome.{Outcome}
-use Rattle.day.specs.Effects.{figuresAfter}
-use Rattle.day.specs.Refusals.{firstMet, figuresRefusal}
-use Rattle.day.specs.Outcome.{outcome}
-use Rattle.day.specs.Inner.{Fixable}
-use Rattle.day.proofs.Held.{figures-hold, size-most}
+use Rattle.figures.specs.declared.Figures.{Figures}
+use Rattle.figures.specs.declared.outcome.Outcome.{Outcome}
+use Rattle.figures.specs.Effects.{figuresAfter}
+use Rattle.figures.specs.Refusals.{firstMet, figuresRefusal}
+use Rattle.figures.specs.Outcome.{outcome}
+use Rattle.figures.specs.Inner.{Fixable}
+use Rattle.figures.proofs.Held.{figures-hold, size-most}
 use Rattle.ledger.specs.declared.Book.{Book}
 use Rattle.ledger.specs.Columns.{accounts, entry}
 use Rattle.ledger.specs.Limits.{mostVolume}

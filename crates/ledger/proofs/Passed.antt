@@ -11,13 +11,14 @@ use lib.Dec.{eqb}
 use borrow.Author.Tests.{not-false}
 use Rattle.day.specs.declared.trade.Trade.{Trade}
 use Rattle.day.specs.declared.call.Call.{Call}
-use Rattle.day.specs.declared.figures.Figures.{Figures}
+use Rattle.figures.specs.declared.Figures.{Figures}
 use Rattle.day.specs.declared.call.Call.the-variants as call
 use Rattle.day.specs.Calls.{onTrade}
-use Rattle.day.specs.Refusals.{notAllowed, haltForbids, tradeOutside, Accounts, noAccounts, sentences, firstMet, figuresRefusal}
-use Rattle.day.proofs.Passed.{unmet, never-met}
-use Rattle.day.proofs.Passed.{Passed as PassedFigures}
-use Rattle.day.proofs.Passed.{passed as passed-figures}
+use Rattle.figures.specs.Refusals.{notAllowed, haltForbids, Accounts, noAccounts, sentences, firstMet, figuresRefusal}
+use Rattle.day.specs.Day.{tradeOutside}
+use Rattle.figures.proofs.Passed.{unmet, never-met}
+use Rattle.figures.proofs.Passed.{Passed as PassedFigures}
+use Rattle.figures.proofs.Passed.{passed as passed-figures}
 use Rattle.ledger.specs.declared.Book.{Book}
 use Rattle.ledger.specs.Limits.{withinLimits}
 use Rattle.ledger.specs.Refusals.{accountsOf, sentencesOf, refusal}

@@ -5,9 +5,9 @@ use lib.IntN.{ℤ, pos, negℤ, _+ℤ_, _-ℤ_, _*ℤ_}
 use lib.ListN.{replicate}
 use Rattle.day.specs.declared.trade.Trade.{Trade}
 use Rattle.day.specs.declared.call.Call.{Call}
-use Rattle.day.specs.declared.figures.Figures.{Figures}
+use Rattle.figures.specs.declared.Figures.{Figures}
 use Rattle.day.specs.Calls.{onTrade, onClose}
-use Rattle.day.specs.Effects.{figuresAfter}
+use Rattle.figures.specs.Effects.{figuresAfter}
 use Rattle.ledger.specs.declared.Book.{Book}
 use Rattle.ledger.specs.Columns.{entry, raise, raiseCount, table}
 

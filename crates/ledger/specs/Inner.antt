@@ -9,11 +9,12 @@ use lib.ListN.{length}
 use Rattle.funding.specs.Price.{largestPrice}
 use Rattle.day.specs.declared.trade.Trade.{Trade}
 use Rattle.day.specs.declared.call.Call.{Call}
-use Rattle.day.specs.declared.figures.Figures.{Figures}
-use Rattle.day.specs.declared.outcome.Outcome.{Outcome}
+use Rattle.figures.specs.declared.Figures.{Figures}
+use Rattle.figures.specs.declared.outcome.Outcome.{Outcome}
 use Rattle.day.specs.declared.call.Call.the-variants as call
-use Rattle.day.specs.Limits.{mostDays, figuresHold}
-use Rattle.day.specs.Refusals.{mostQuantity, firstMet}
+use Rattle.figures.specs.Figures.{mostDays, figuresHold}
+use Rattle.day.specs.Day.{mostQuantity}
+use Rattle.figures.specs.Refusals.{firstMet}
 use Rattle.ledger.specs.declared.Book.{Book}
 use Rattle.ledger.specs.declared.Answer.{Answer}
 use Rattle.ledger.specs.Columns.{accounts, entry, countAt}

@@ -6,7 +6,7 @@ use mathlib.Core.List.{List}
 use Prim.Native.Nat.{ℕ}
 use lib.ListN.{length}
 use Rattle.day.specs.declared.call.Call.{Call}
-use Rattle.day.specs.Opening.{isSize}
+use Rattle.figures.specs.Figures.{isSize}
 use Rattle.ledger.specs.declared.Book.{Book}
 use Rattle.ledger.specs.Opening.{fresh, opening}
 use Rattle.ledger.specs.Limits.{withinLimits}

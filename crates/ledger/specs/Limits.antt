@@ -5,7 +5,8 @@ use lib.Dec.{leb}
 use lib.IntN.{ℤ}
 use Rattle.integers.specs.Size.{within}
 use Rattle.funding.specs.Price.{largestPrice}
-use Rattle.day.specs.Limits.{finalHolds, figuresHold}
+use Rattle.day.specs.Limits.{finalHolds}
+use Rattle.figures.specs.Figures.{figuresHold}
 use Rattle.ledger.specs.declared.Book.{Book}
 use Rattle.ledger.specs.Columns.{entry, countAt, allBelow, sumBelow}
 

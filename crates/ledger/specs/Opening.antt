@@ -2,8 +2,9 @@
 use Prim.Native.Nat.{ℕ}
 use lib.IntN.{pos}
 use lib.ListN.{replicate}
-use Rattle.day.specs.declared.figures.Figures.{Figures}
-use Rattle.day.specs.Opening.{freshFigures, opened}
+use Rattle.figures.specs.declared.Figures.{Figures}
+use Rattle.figures.specs.Figures.{freshFigures}
+use Rattle.figures.specs.Outcome.{opened}
 use Rattle.ledger.specs.declared.Book.{Book}
 use Rattle.ledger.specs.declared.Answer.{Answer}
 

@@ -7,10 +7,10 @@ use lib.IntN.{ℤ}
 use Rattle.integers.specs.Size.{within}
 use Rattle.day.specs.declared.trade.Trade.{Trade}
 use Rattle.day.specs.declared.call.Call.{Call}
-use Rattle.day.specs.declared.figures.Figures.{Figures}
+use Rattle.figures.specs.declared.Figures.{Figures}
 use Rattle.day.specs.declared.call.Call.the-variants as call
 use Rattle.day.specs.Calls.{onTrade}
-use Rattle.day.specs.Refusals.{Accounts, noAccounts, sentences, firstMet}
+use Rattle.figures.specs.Refusals.{Accounts, noAccounts, sentences, firstMet}
 use Rattle.ledger.specs.declared.Book.{Book}
 use Rattle.ledger.specs.Columns.{entry, countAt}
 use Rattle.ledger.specs.Limits.{mostPosition, mostVolume, withinLimits}

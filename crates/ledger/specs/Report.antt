@@ -4,7 +4,7 @@ use mathlib.Core.List.{List, [], _∷_}
 use Prim.Native.Nat.{ℕ}
 use lib.Dec.{eqb}
 use lib.IntN.{ℤ}
-use Rattle.day.specs.Refusals.{firstMet}
+use Rattle.figures.specs.Refusals.{firstMet}
 use Rattle.ledger.specs.declared.Book.{Book}
 use Rattle.ledger.specs.Limits.{withinLimits}
 

@@ -5,7 +5,7 @@ use Prim.Native.Nat.{ℕ}
 use lib.Dec.{eqb}
 use Rattle.integers.specs.Lists.{keepIf}
 use Rattle.day.specs.declared.call.Call.{Call}
-use Rattle.day.specs.Effects.{noFixing, fixingOf}
+use Rattle.figures.specs.Effects.{noFixing, fixingOf}
 use Rattle.ledger.specs.declared.Book.{Book}
 use Rattle.ledger.specs.declared.Answer.{Answer}
 use Rattle.ledger.specs.Effects.{effect}

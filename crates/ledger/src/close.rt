@@ -7,8 +7,8 @@ ghost use Rattle.ledger.specs.Inner.{answered, bookOf, answerOf, Postabl
 ghost use Rattle.ledger.specs.declared.Book.{Book};
 use crate::ACCOUNTS;
 use day::call::Call;
-use day::figures::Figures;
-use day::outcome::Outcome;
+use figures::Figures;
+use figures::outcome::Outcome;
 
 // What a close adds to an account's cash. Numbers within their limits are required, so that the sums fit.
 fn posting(figures: Figures, opening: i64, position: i64, cost: i64) -> i64

@@ -2,7 +2,8 @@
 ghost use mathlib.Core.Path.{_≡_};
 ghost use Prim.Native.Nat.{_≤_};
 ghost use Rattle.integers.specs.Size.{within};
-ghost use Rattle.day.specs.Limits.{mostDays, finalHolds};
+ghost use Rattle.figures.specs.Figures.{mostDays};
+ghost use Rattle.day.specs.Limits.{finalHolds};
 ghost use Rattle.ledger.specs.Columns.{accounts, countAt, allBelow, sumBelow};
 ghost use Rattle.ledger.specs.Limits.{mostPosition, accountHolds, withinLimits};
 ghost use Rattle.ledger.specs.Inner.{bookOf, accountAt, VolumesWithin};
@@ -11,7 +12,7 @@ use crate::ACCOUNTS;
 use crate::MOST_POSITION;
 use crate::MOST_POSTING;
 use crate::MOST_VOLUME;
-use day::figures::Figures;
+use figures::Figures;
 use funding::FinalMinute;
 use funding::LARGEST_PRICE;
 use funding::LEAST_PRICE;

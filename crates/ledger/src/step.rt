@@ -10,8 +10,8 @@ use crate::close::close_on;
 use crate::limits::limits_hold;
 use crate::trading::trade_on;
 use day::call::Call;
-use day::figures::Figures;
-use day::outcome::Outcome;
+use figures::Figures;
+use figures::outcome::Outcome;
 
 // The inner layer: a call on a book within its limits. A run uses it, so that it neither copies the book nor scans its limits
 // at every call. What it hands back is within its limits again (specs/Keeping.antt).

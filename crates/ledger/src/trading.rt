@@ -3,7 +3,7 @@ ghost use mathlib.Core.Path.{_≡_};
 ghost use mathlib.Core.Bool.{cond};
 ghost use Prim.Native.Nat.{_+_, _≤_};
 ghost use lib.Dec.{eqb};
-ghost use Rattle.day.specs.Refusals.{mostQuantity};
+ghost use Rattle.day.specs.Day.{mostQuantity};
 ghost use Rattle.ledger.specs.Columns.{accounts};
 ghost use Rattle.ledger.specs.Limits.{mostPosition};
 ghost use Rattle.ledger.specs.Effects.{exchanged, counted};
@@ -12,9 +12,9 @@ ghost use Rattle.ledger.specs.Inner.{mostEntry, mostMoved, TradeAnswered
 use crate::ACCOUNTS;
 use crate::MOST_POSITION;
 use crate::MOST_VOLUME;
-use day::figures::Figures;
-use day::outcome::Outcome;
 use day::trade::Trade;
+use figures::Figures;
+use figures::outcome::Outcome;
 
 // What the v of each account of a trade rises by: both sides where they are one account.
 fn counts(t: Trade) -> u64

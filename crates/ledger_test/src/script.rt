@@ -24,7 +24,7 @@ use crate::words::named_by;
 use crate::words::part;
 use crate::words::print_after;
 use crate::words::print_word;
-use day::product::Product;
+use figures::product::Product;
 use ledger::Book;
 
 // What a line asks for.

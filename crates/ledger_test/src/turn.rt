@@ -19,7 +19,7 @@ use crate::words::VALID;
 use crate::words::print_after;
 use crate::words::print_word;
 use crate::words::row_numbers;
-use day::outcome::Fixing;
+use figures::outcome::Fixing;
 use ledger::ACCOUNTS;
 use ledger::Book;
 

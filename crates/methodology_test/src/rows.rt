@@ -11,7 +11,7 @@ use crate::print::end_line;
 use crate::print::number;
 use crate::print::signed;
 use crate::print::text;
-use day::product::Product;
+use figures::product::Product;
 use integers::Tie;
 
 // The valid minutes of an example so far, and their weighted sum.

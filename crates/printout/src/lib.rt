@@ -3,8 +3,8 @@ ghost use mathlib.Core.Path.{_≡_};
 ghost use Rattle.ledger.specs.Step.{step};
 ghost use Rattle.printout.specs.Printed.{printedOpening, printedBy, played, playedRecord, isPrinted};
 use day::call::Call;
-use day::outcome::Fixing;
 use dayfile::Read;
+use figures::outcome::Fixing;
 use ledger::Answer;
 use ledger::Book;
 

@@ -1,7 +1,7 @@
 // trade-bench: a million trades on a book that each call takes and hands back, for benchmarks/run to time. It prints how many
 // were accepted: all of them.
-use day::product::Product;
 use day::trade::Trade;
+use figures::product::Product;
 use ledger::Book;
 use libc::STDOUT_FILENO;
 

@@ -17,7 +17,7 @@ use Rattle.ledger.specs.Columns.{accounts}
 use Rattle.ledger.specs.Effects.{effect}
 use Rattle.ledger.specs.Inner.{bookOf, answerOf}
 use Rattle.ledger.specs.Step.{step}
-use Rattle.day.proofs.Held.{figures-hold}
+use Rattle.figures.proofs.Held.{figures-hold}
 use Rattle.ledger.proofs.Held.{held}
 use Rattle.ledger.proofs.Lent.{step-within, on-figures}
 use Rattle.host.specs.Running.{Running}

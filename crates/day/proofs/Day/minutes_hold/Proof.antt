@@ -2,7 +2,6 @@
 use mathlib.Core.Path.{_≡_, ap, _∙_, sym}
 use mathlib.Core.Bool.{_&&_}
 use mathlib.Core.List.{[], _∷_}
-use native.Mathlib.Omega.{arith}
 use lib.Dec.{leb}
 use mir.Syntax.{w64}
 use mir.Val.{SFits}

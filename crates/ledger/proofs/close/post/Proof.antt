@@ -11,8 +11,8 @@ use Rattle.integers.proofs.Overflow.{arg, add, val, Within, _▹_, done, safe, 
 use Rattle.ledger.specs.Columns.{accounts, entry}
 use Rattle.ledger.specs.Effects.{posting, posted}
 use Rattle.ledger.proofs.Filling.{filling, fill-start, fill-next, fill-read, fill-end}
-use Rattle.day.specs.Limits.{mostDays}
-use Rattle.day.proofs.Held.{held-figures}
+use Rattle.figures.specs.Figures.{mostDays}
+use Rattle.figures.proofs.Held.{held-figures}
 use Rattle.ledger.specs.Limits.{mostPosting}
 use Rattle.ledger.proofs.KeepingClose.{posting-size}
 use Rattle.ledger.proofs.close.post.Statement.{statement}

@@ -6,9 +6,9 @@ use borrow.Author.Needs.{needs}
 use Rattle.integers.proofs.Overflow.{Op, arg, lit, add, sub, mul, val, nat, Within, _▹_, done, safe, runs}
 use Rattle.funding.specs.Price.{largestPrice}
 use Rattle.funding.proofs.Prices.{price-most}
-use Rattle.day.specs.Opening.{tenth}
+use Rattle.figures.specs.Figures.{tenth}
 use Rattle.day.specs.Limits.{mostAmount}
-use Rattle.day.proofs.Held.{held-figures, size-most}
+use Rattle.figures.proofs.Held.{held-figures, size-most}
 use Rattle.ledger.specs.Limits.{mostPosition, mostVolume}
 use Rattle.ledger.proofs.close.posting.Statement.{statement}
 use Rattle.ledger.proofs.close.posting.Tie as tie

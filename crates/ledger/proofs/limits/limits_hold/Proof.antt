@@ -9,8 +9,8 @@ use borrow.Author.Tests.{leb-true, not-true, not-false}
 use Rattle.ledger.specs.declared.Book.{Book}
 use Rattle.ledger.specs.Columns.{accounts, allBelow}
 use Rattle.funding.specs.Price.{noneOrPrice}
-use Rattle.day.specs.Opening.{isSize}
-use Rattle.day.specs.Limits.{mostDays, dayHolds, figuresHold}
+use Rattle.figures.specs.Figures.{isSize, mostDays, figuresHold}
+use Rattle.day.specs.Limits.{dayHolds}
 use Rattle.ledger.specs.Limits.{accountOf, withinLimits}
 use Rattle.ledger.specs.Inner.{bookOf}
 use Rattle.ledger.proofs.Columns.{all-at}

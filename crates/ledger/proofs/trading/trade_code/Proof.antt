@@ -7,7 +7,7 @@ use mir.Syntax.{w8}
 use mir.Val.{Fits}
 use borrow.Author.Tests.{lt-ltb, ne-eqb}
 use borrow.Author.Needs.{needs}
-use Rattle.day.specs.Refusals.{firstMet}
+use Rattle.figures.specs.Refusals.{firstMet}
 use Rattle.ledger.specs.Columns.{accounts}
 use Rattle.ledger.specs.Refusals.{volumeStays, positionStays, accountsOf, tradeRefusal}
 use Rattle.ledger.proofs.Passed.{trade-number}

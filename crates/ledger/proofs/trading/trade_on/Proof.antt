@@ -5,9 +5,9 @@ use native.Mathlib.Omega.{arith}
 use borrow.Author.Needs.{needs}
 use Rattle.funding.specs.Price.{largestPrice}
 use Rattle.day.specs.declared.call.Call.the-variants as call
-use Rattle.day.specs.Effects.{fixingOf}
-use Rattle.day.specs.Refusals.{mostQuantity}
-use Rattle.day.proofs.Passed.{passed}
+use Rattle.figures.specs.Effects.{fixingOf}
+use Rattle.day.specs.Day.{mostQuantity}
+use Rattle.figures.proofs.Passed.{passed}
 use Rattle.day.proofs.Keeping.{TradeFields, trade-fields}
 use Rattle.ledger.specs.Columns.{accounts}
 use Rattle.ledger.specs.Effects.{effect}

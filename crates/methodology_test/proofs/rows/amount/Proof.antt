@@ -14,7 +14,7 @@ use Rattle.funding.specs.Price.{largestPrice}
 use Rattle.funding.specs.Terms.{clamp}
 use Rattle.funding.specs.Fixing.{amountOf}
 use Rattle.funding.proofs.Bounds.{amount-fits, amount-size}
-use Rattle.day.specs.Opening.{tenth}
+use Rattle.figures.specs.Figures.{tenth}
 use Rattle.day.specs.Limits.{mostAmount}
 use Rattle.methodology_test.proofs.rows.amount.Statement.{statement}
 use Rattle.methodology_test.proofs.rows.amount.Tie as tie

@@ -6,8 +6,7 @@ use borrow.Author.Tests.{ne-eqb, not-true, not-false}
 use borrow.Author.Needs.{needs}
 use Rattle.funding.specs.Price.{isPrice, isTicked}
 use Rattle.day.specs.Types.{Trade}
-use Rattle.day.specs.Day.{simple, block}
-use Rattle.day.specs.Refusals.{mostQuantity, leastBlock, tradeOutside}
+use Rattle.day.specs.Day.{simple, block, mostQuantity, leastBlock, tradeOutside}
 use Rattle.day.proofs.trade.Trade.is_outside.Statement.{statement}
 use Rattle.day.proofs.trade.Trade.is_outside.Tie as tie
 

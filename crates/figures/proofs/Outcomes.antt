@@ -1,0 +1,18 @@
+-- What the answers come to.
+--     refused-is      a refusal with a number that is met is the call's outcome
+--     accepted-is     so are the changed figures, where no number is met
+-- Assumes nothing.
+use mathlib.Core.Path.{_≡_, _∙_}
+use Prim.Native.Nat.{ℕ}
+use borrow.Author.Tests.{ne-eqb}
+use Rattle.figures.specs.Types.{Call, Figures, Outcome}
+use Rattle.figures.specs.Effects.{figuresAfter, fixingOf}
+use Rattle.figures.specs.Refusals.{figuresRefusal}
+use Rattle.figures.specs.Outcome.{numbered, outcome}
+
+module _ (f : Figures) (c : Call) {code : ℕ} (is : code ≡ figuresRefusal f c) where
+  pub refused-is : {r : Outcome} → (code ≡ 0 → ⊥) → r ≡ numbered f code → r ≡ outcome f c
+  refused-is {r} h e = e ∙ rw (← is, ne-eqb code 0 h)
+
+  pub accepted-is : {r : Outcome} → code ≡ 0 → r ≡ record { code = 0; fixing = fixingOf f c; figures = figuresAfter f c } → r ≡ outcome f c
+  accepted-is {r} h e = e ∙ rw (← is, h)

@@ -1,0 +1,16 @@
+-- What the functions of this crate require, which figures within their limits have. A reader of the promises can skip this file.
+use mathlib.Core.Bool.{Bool}
+use Prim.Native.Nat.{_*_, _≤_}
+use Rattle.funding.specs.Price.{largestPrice}
+use Rattle.figures.specs.Types.{Day, Figures, Fixing, Outcome}
+use Rattle.figures.specs.Figures.{tenth}
+use Rattle.figures.specs.Effects.{withDay}
+
+-- the figures of a fix fit
+pub record Fixable (f : Figures) : Type 0 where
+  pub gross : f .day .trades .settling .gross ≤ largestPrice * f .day .trades .settling .contracts
+  pub size : f .size ≤ tenth
+
+-- no refusal, with what a fix found
+abbrev pub changed : Figures → Bool → Day → Fixing → Outcome
+changed f halted d x = record { code = 0; fixing = x; figures = withDay f halted d }

@@ -1,0 +1,6 @@
+pub mod Types
+pub mod Figures
+pub mod Effects
+pub mod Refusals
+pub mod Outcome
+pub mod Inner

@@ -1,0 +1,47 @@
+// What a call makes of the figures.
+ghost use mathlib.Core.Path.{_≡_};
+ghost use Rattle.figures.specs.Effects.{noFixing};
+ghost use Rattle.figures.specs.Outcome.{numbered as Outcome·numbered};
+use crate::Figures;
+
+// What a fix prints; zeros for any other call.
+pub struct Fixing {
+    pub price: u32,
+    // the clamped rate
+    pub rate: i64,
+    pub amount: i64,
+    // valid count k
+    pub valid: u32,
+}
+
+// The refusal's number and the same figures, or 0 and the new ones.
+pub struct Outcome {
+    pub code: u8,
+    pub fixing: Fixing,
+    pub figures: Figures,
+}
+
+impl Fixing {
+    pub fn none() -> Self
+        ensures { λ r. ⌜ r ≡ noFixing ⌝ }
+    {
+        Self {
+            price: 0,
+            rate: 0,
+            amount: 0,
+            valid: 0,
+        }
+    }
+}
+
+impl Outcome {
+    pub fn numbered(figures: Figures, code: u8) -> Self
+        ensures { λ r. ⌜ r ≡ Outcome·numbered figures code ⌝ }
+    {
+        Self {
+            code,
+            fixing: Fixing::none(),
+            figures,
+        }
+    }
+}
