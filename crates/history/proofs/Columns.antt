@@ -9,7 +9,8 @@ use native.Mathlib.Nat.{add-zero}
 use lib.Dec.{T, eqb, eqb→eq, eqb-refl}
 use lib.IntN.{ℤ, pos, _+ℤ_, +ℤ-idr}
 use lib.ListN.{getD, set, replicate}
-use Rattle.ledger.specs.Columns.{raise, raiseCount, table}
+use Rattle.columns.specs.Columns.{table}
+use Rattle.columns.specs.Columns.{raise, raiseCount}
 
 module _ {A : Type 0} where
   pub table-ext : (n : ℕ) (f g : ℕ → A) → ((j : ℕ) → j < n → f j ≡ g j) → table n f ≡ table n g

@@ -11,7 +11,7 @@ use Rattle.integers.proofs.Tests.{both-false}
 use Rattle.funding.specs.Price.{isPresent}
 use Rattle.day.specs.declared.call.Call.{Call}
 use Rattle.day.specs.declared.call.Call.the-variants as call
-use Rattle.day.specs.Calls.{onFix, onClose}
+use Rattle.day.specs.Calls.{onClose}
 use Rattle.figures.specs.Effects.{fixPrice}
 use Rattle.figures.specs.Refusals.{isFull, dayForbids}
 use Rattle.day.proofs.Calls.{FixOr, fix, CloseOr, close, fix-or, close-or, on-close-is}
@@ -19,7 +19,7 @@ use Rattle.day.proofs.Calls as calls
 use Rattle.ledger.proofs.Held.{held}
 use Rattle.ledger.proofs.Passed.{Passed}
 use Rattle.history.specs.History.{History, Moment, lengthOf, closings, today, fixes, minutes}
-use Rattle.history.specs.Settlements.{atFix, previousOf, priceAt, priceOn}
+use Rattle.history.specs.Settlements.{atFix, priceOn}
 use Rattle.history.specs.Demand3.{callsOfDays, Whole}
 use Rattle.history.proofs.Kept.{figuresFrom, bookFrom}
 use Rattle.history.proofs.Accepted.{AllPassed}

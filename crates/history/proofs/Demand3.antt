@@ -6,10 +6,10 @@ use Prim.Native.Nat.{ℕ}
 use native.Mathlib.Nat.{suc-ne-zero}
 use lib.IntN.{pos}
 use Rattle.ledger.specs.declared.Book.{Book}
-use Rattle.ledger.specs.Columns.{entry}
 use Rattle.figures.specs.Figures.{isSize}
-use Rattle.ledger.specs.Opening.{fresh, opening}
-use Rattle.ledger.proofs.Columns.{table-at}
+use Rattle.columns.specs.Columns.{entry}
+use Rattle.columns.proofs.Columns.{table-at}
+use Rattle.ledger.specs.Step.{fresh, opening}
 use Rattle.history.specs.History.{closings}
 use Rattle.history.specs.Cash.{net, cashOf}
 use Rattle.history.specs.Demand3.{history, total, DemandThree}

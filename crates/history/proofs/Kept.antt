@@ -7,25 +7,27 @@ use native.Mathlib.Nat.{add-assoc}
 use native.Mathlib.Numerals.{add-one}
 use lib.Dec.{eqb}
 use lib.IntN.{ℤ, pos, negℤ, _+ℤ_, _-ℤ_, _*ℤ_, +ℤ-assoc, +ℤ-invr}
-use lib.ListN.{length, replicate}
+use lib.ListN.{length, replicate, set}
 use Rattle.integers.specs.Lists.{keepIf, sumCount, sum}
 use Rattle.integers.proofs.Ring.{ring, _⊕_, _⊖_, _⊗_, ⊝_, num}
 use Rattle.funding.specs.Minute.{weightedSum}
+use Rattle.columns.specs.Columns.{table}
 use Rattle.day.specs.declared.trade.Trade.{Trade}
 use Rattle.day.specs.declared.call.Call.{Call}
 use Rattle.day.specs.declared.Day.{Day}
 use Rattle.figures.specs.declared.Figures.{Figures}
 use Rattle.day.specs.declared.call.Call.the-variants as call
-use Rattle.day.specs.Day.{emptyDay, isFinal, minuteOf}
+use Rattle.day.specs.Day.{isFinal, minuteOf}
 use Rattle.day.specs.Effects.{traded, minuteEnded}
 use Rattle.figures.specs.Effects.{figuresAfter}
 use Rattle.day.proofs.Calls.{TradeOr, trade, CloseOr, close, trade-or, close-or}
 use Rattle.day.proofs.Calls as calls
+use Rattle.columns.specs.Columns.{raise, raiseCount}
+use Rattle.columns.specs.Effects.{exchanged, counted, posting}
+use Rattle.columns.proofs.Columns.{table-at}
 use Rattle.ledger.specs.declared.Book.{Book}
-use Rattle.ledger.specs.Columns.{raise, raiseCount, table}
-use Rattle.ledger.specs.Opening.{fresh}
-use Rattle.ledger.specs.Effects.{withFigures, tradedBook, closedBook, exchanged, counted, posting, cashAfter, effect}
-use Rattle.ledger.proofs.Columns.{table-at}
+use Rattle.ledger.specs.Effects.{withFigures, tradedBook, closedBook, cashAfter, effect}
+use Rattle.ledger.specs.Step.{fresh}
 use Rattle.history.specs.History.{History, lengthOf, halted, market, minuteMarket, last, closings, today, closedPart, trades, minuteEnds, fixes, minutes, endsValid, validOf, validMinutes, finalTrades}
 use Rattle.history.specs.Settlements.{finalMinute, indexOf, indexOn, atFix, previousOf, priceOn, lastPrice, amountOn}
 use Rattle.history.specs.Cash.{ofAccount, signed, net, yield, paid, cashOf}

@@ -8,8 +8,8 @@ use native.Mathlib.Nat.{not-suc-le-zero, le-of-suc-le-suc}
 use lib.Dec.{eqb·suc-suc}
 use lib.IntN.{ℤ, pos, _+ℤ_, _*ℤ_, zero-*ℤ, +ℤ-idl, +ℤ-idr}
 use Rattle.integers.proofs.Ring.{ring, _⊕_, _⊗_}
-use Rattle.ledger.specs.Columns.{table}
 use Rattle.integers.specs.Lists.{Every, sum}
+use Rattle.columns.specs.Columns.{table}
 use Rattle.history.specs.Cash.{ofAccount}
 use Rattle.history.specs.Demand3.{total}
 use Rattle.history.proofs.Columns.{table-ext, at-same, at-other}

@@ -12,7 +12,6 @@ use Rattle.history.specs.History.{History, closings, closedPart, trades}
 use Rattle.history.specs.Settlements.{lastPrice, amountOn}
 use Rattle.history.specs.Cash.{ofAccount, signed, net, yield, paid, cashOf}
 use Rattle.history.proofs.Sums.{overAll, all-add, all-account, scaled-cancels, sum-cancels}
-use Rattle.history.proofs.Kept.{bookFrom}
 use Rattle.history.proofs.Accepted.{AllPassed}
 use Rattle.history.proofs.Days.{closes-passed}
 

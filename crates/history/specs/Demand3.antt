@@ -14,10 +14,9 @@ use lib.ListN.{length}
 use Rattle.integers.specs.Lists.{Every, sum}
 use Rattle.day.specs.declared.call.Call.{Call}
 use Rattle.day.specs.declared.call.Call.the-variants as call
+use Rattle.columns.specs.Columns.{entry}
 use Rattle.ledger.specs.declared.Book.{Book}
-use Rattle.ledger.specs.Columns.{entry}
-use Rattle.ledger.specs.Opening.{opening}
-use Rattle.ledger.specs.Step.{run, acceptedCalls}
+use Rattle.ledger.specs.Step.{run, acceptedCalls, opening}
 use Rattle.history.specs.History.{History, lengthOf, closings, today, minuteEnds, fixes}
 use Rattle.history.specs.Cash.{net, cashOf}
 

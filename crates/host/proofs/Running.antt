@@ -12,9 +12,9 @@ use lib.Dec.{eqb}
 use lib.ListN.{length}
 use Rattle.integers.specs.Lists.{keepIf}
 use Rattle.day.specs.declared.call.Call.{Call}
+use Rattle.columns.specs.Columns.{accounts}
 use Rattle.ledger.specs.declared.Book.{Book}
 use Rattle.ledger.specs.declared.Answer.{Answer}
-use Rattle.ledger.specs.Columns.{accounts}
 use Rattle.ledger.specs.Step.{step, run, acceptedCalls, isAccepted}
 use Rattle.ledger.proofs.Keeping.{step-kept}
 use Rattle.dayfile.specs.Calls.{callsFrom, callsOf}

@@ -11,10 +11,9 @@ use native.Mathlib.Omega.{arith}
 use lib.ListN.{length}
 use Rattle.day.specs.declared.call.Call.{Call}
 use Rattle.figures.specs.Figures.{isSize}
+use Rattle.columns.specs.Columns.{accounts}
 use Rattle.ledger.specs.declared.Book.{Book}
-use Rattle.ledger.specs.Columns.{accounts}
-use Rattle.ledger.specs.Opening.{opening}
-use Rattle.ledger.specs.Step.{step, run, acceptedCalls}
+use Rattle.ledger.specs.Step.{step, run, acceptedCalls, opening}
 use Rattle.ledger.specs.Inner.{WithinLimits}
 use Rattle.ledger.proofs.Keeping.{fresh-shaped, step-kept, run-within}
 use Rattle.history.proofs.Demand3.{demand-three}

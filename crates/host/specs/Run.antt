@@ -7,10 +7,9 @@ use lib.Dec.{eqb}
 use lib.IntN.{ℤ, pos}
 use lib.ListN.{length}
 use Rattle.day.specs.declared.call.Call.{Call}
+use Rattle.columns.specs.Columns.{accounts, entry}
 use Rattle.ledger.specs.declared.Book.{Book}
-use Rattle.ledger.specs.Columns.{accounts, entry}
-use Rattle.ledger.specs.Opening.{opening}
-use Rattle.ledger.specs.Step.{run, acceptedCalls}
+use Rattle.ledger.specs.Step.{run, acceptedCalls, opening}
 use Rattle.history.specs.Cash.{net, cashOf}
 use Rattle.history.specs.Demand3.{history, total}
 use Rattle.dayfile.specs.Calls.{callsOf}

@@ -4,8 +4,8 @@ use mathlib.Core.Path.{_≡_}
 use mathlib.Core.List.{List}
 use Prim.Native.Nat.{ℕ, _+_, _≤_}
 use lib.ListN.{length}
+use Rattle.columns.specs.Columns.{accounts}
 use Rattle.ledger.specs.declared.Book.{Book}
-use Rattle.ledger.specs.Columns.{accounts}
 use Rattle.ledger.specs.Step.{run, acceptedCalls}
 use Rattle.ledger.specs.Inner.{WithinLimits}
 use Rattle.dayfile.specs.Calls.{callsFrom}

@@ -5,15 +5,12 @@
 use mathlib.Core.Path.{_≡_, _∙_, ap}
 use Prim.Native.Nat.{ℕ}
 use borrow.Author.Tests.{ne-eqb}
-use Rattle.day.specs.declared.call.Call.{Call}
-use Rattle.figures.specs.declared.outcome.Outcome.{Outcome}
 use Rattle.figures.specs.Effects.{fixingOf}
 use Rattle.figures.specs.Outcome.{numbered}
-use Rattle.ledger.specs.declared.Book.{Book}
-use Rattle.ledger.specs.declared.Answer.{Answer}
 use Rattle.ledger.specs.Effects.{effect}
 use Rattle.ledger.specs.Step.{answerBy}
 use Rattle.ledger.specs.Inner.{answerOf}
+use Rattle.ledger.specs.Types.{Call, Outcome, Book, Answer}
 
 module _ (n : ℕ) (b : Book) (c : Call) {number code : ℕ} (is : code ≡ number) where
   pub refused-answer : {r : Outcome} → (code ≡ 0 → ⊥) → r ≡ numbered (b .figures) code → answerOf r (b .opening) (b .position) (b .cost) (b .volume) (b .cash) ≡ answerBy number n b c

@@ -17,10 +17,11 @@ use Rattle.day.specs.Limits.{finalHolds}
 use Rattle.figures.specs.Figures.{figuresHold}
 use Rattle.figures.proofs.Held.{HeldFigures, held-figures, figures-hold}
 use Rattle.day.proofs.Held.{HeldFinal, held-final, final-holds}
-use Rattle.ledger.specs.declared.Book.{Book}
-use Rattle.ledger.specs.Columns.{entry, countAt, allBelow, sumBelow}
-use Rattle.ledger.specs.Limits.{mostPosition, mostVolume, mostPosting, accountOf, withinLimits}
-use Rattle.ledger.proofs.Columns.{all-at, all-by, sum-most}
+use Rattle.columns.specs.Columns.{entry, countAt, allBelow, sumBelow}
+use Rattle.columns.specs.Limits.{mostPosition, mostVolume, mostPosting}
+use Rattle.columns.proofs.Columns.{all-at, all-by, sum-most}
+use Rattle.ledger.specs.Types.{Book}
+use Rattle.ledger.specs.Refusals.{accountOf, withinLimits}
 
 pub record Account (b : Book) (j : ℕ) : Type 0 where
   pub opening : natAbs (entry (b .opening) j) ≤ mostPosition

@@ -9,28 +9,24 @@ use mathlib.Core.Bool.{Bool, true, false, cond}
 use mathlib.Core.List.{List, [], _∷_}
 use Prim.Native.Nat.{ℕ}
 use native.Mathlib.Omega.{arith}
-use lib.ListN.{length-set, length-replicate}
+use lib.ListN.{length-set, length-replicate, set}
 use borrow.Author.Tests.{eqb-true}
 use Rattle.integers.proofs.Tests.{by-test}
-use Rattle.day.specs.declared.call.Call.{Call}
-use Rattle.figures.specs.declared.Figures.{Figures}
 use Rattle.day.specs.declared.call.Call.the-variants as call
 use Rattle.figures.specs.Effects.{figuresAfter}
 use Rattle.figures.specs.Figures.{isSize}
 use Rattle.day.specs.Calls.{onTrade}
 use Rattle.figures.specs.Refusals.{noAccounts}
 use Rattle.figures.proofs.Held.{HeldFigures}
-use Rattle.day.proofs.Held.{HeldFinal}
 use Rattle.figures.proofs.Keeping.{held-after}
-use Rattle.ledger.specs.declared.Book.{Book}
-use Rattle.ledger.specs.Columns.{countAt, sumBelow}
-use Rattle.ledger.specs.Opening.{fresh, opening}
-use Rattle.ledger.specs.Limits.{withinLimits}
+use Rattle.columns.specs.Columns.{countAt, sumBelow}
+use Rattle.columns.specs.Limits.{accountsOf}
+use Rattle.columns.proofs.Columns.{table-length}
 use Rattle.ledger.specs.Effects.{withFigures, effect}
-use Rattle.ledger.specs.Refusals.{accountsOf, refusal}
-use Rattle.ledger.specs.Step.{isAccepted, step, run}
+use Rattle.ledger.specs.Refusals.{refusal, withinLimits}
+use Rattle.ledger.specs.Step.{isAccepted, step, run, fresh, opening}
 use Rattle.ledger.specs.Keeping.{Shaped, FreshShaped, ShapeKept, FreshWithin, LimitsKept, RunWithin, NeverBeyond}
-use Rattle.ledger.proofs.Columns.{table-length}
+use Rattle.ledger.specs.Types.{Call, Figures, Book}
 use Rattle.ledger.proofs.Held.{Held, held, holds}
 use Rattle.ledger.proofs.Passed.{Passed, passed, within-passes}
 use Rattle.ledger.proofs.KeepingTrade.{traded-account, traded-final}

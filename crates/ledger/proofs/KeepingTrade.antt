@@ -2,7 +2,7 @@
 --     in-range     both accounts are among those of the book
 -- Assumes nothing.
 use mathlib.Core.Path.{_≡_, sym, _∙_, ap, subst}
-use mathlib.Core.Bool.{Bool, true, false, not, _&&_}
+use mathlib.Core.Bool.{false, not, _&&_}
 use mathlib.Core.List.{List, [], _∷_}
 use Prim.Native.Nat.{ℕ, _+_, _*_, _<_, _≤_}
 use native.Mathlib.Decide.{ℕ-discrete}
@@ -16,19 +16,18 @@ use Rattle.integers.specs.Size.{within}
 use Rattle.integers.proofs.Order.{abs-neg, abs-add}
 use Rattle.integers.proofs.Tests.{tests, by-test, each}
 use Rattle.funding.specs.Price.{largestPrice}
-use Rattle.day.specs.declared.trade.Trade.{Trade}
-use Rattle.figures.specs.declared.Figures.{Figures}
 use Rattle.day.specs.declared.call.Call.the-variants as call
 use Rattle.day.specs.Day.{dayLength, isFinal, withTrade}
 use Rattle.figures.specs.Effects.{figuresAfter}
 use Rattle.day.proofs.Held.{HeldFinal}
 use Rattle.day.proofs.Keeping.{TradeFields, trade-fields}
-use Rattle.ledger.specs.declared.Book.{Book}
-use Rattle.ledger.specs.Columns.{entry, countAt, raise, raiseCount, sumBelow}
-use Rattle.ledger.specs.Limits.{mostPosition, mostVolume}
-use Rattle.ledger.specs.Effects.{exchanged, counted, tradedBook}
+use Rattle.columns.specs.Columns.{entry, countAt, raise, raiseCount, sumBelow}
+use Rattle.columns.specs.Limits.{mostPosition, mostVolume}
+use Rattle.columns.specs.Effects.{exchanged, counted}
+use Rattle.columns.proofs.Columns.{sum-raised}
+use Rattle.ledger.specs.Effects.{tradedBook}
 use Rattle.ledger.specs.Keeping.{Shaped}
-use Rattle.ledger.proofs.Columns.{sum-raised}
+use Rattle.ledger.specs.Types.{Trade, Figures, Book}
 use Rattle.ledger.proofs.Held.{Account, Held}
 use Rattle.ledger.proofs.Passed.{Passed}
 

@@ -12,22 +12,19 @@ use lib.Dec.{eqb}
 use lib.IntN.{ℤ, natAbs}
 use lib.ListN.{length}
 use Rattle.funding.specs.Price.{largestPrice}
-use Rattle.day.specs.declared.trade.Trade.{Trade}
-use Rattle.day.specs.declared.call.Call.{Call}
-use Rattle.figures.specs.declared.Figures.{Figures}
-use Rattle.figures.specs.declared.outcome.Outcome.{Outcome}
 use Rattle.figures.specs.Effects.{figuresAfter}
 use Rattle.figures.specs.Refusals.{firstMet, figuresRefusal}
 use Rattle.figures.specs.Outcome.{outcome}
 use Rattle.figures.specs.Inner.{Fixable}
 use Rattle.figures.proofs.Held.{figures-hold, size-most}
-use Rattle.ledger.specs.declared.Book.{Book}
-use Rattle.ledger.specs.Columns.{accounts, entry}
-use Rattle.ledger.specs.Limits.{mostVolume}
+use Rattle.columns.specs.Columns.{accounts, entry}
+use Rattle.columns.specs.Limits.{mostVolume}
+use Rattle.columns.specs.Inner.{Closable}
 use Rattle.ledger.specs.Effects.{withFigures, effect}
 use Rattle.ledger.specs.Refusals.{sentencesOf, refusal}
 use Rattle.ledger.specs.Step.{step}
-use Rattle.ledger.specs.Inner.{bookOf, answerOf, answered, Tradable, Closable, WithinLimits}
+use Rattle.ledger.specs.Inner.{bookOf, answerOf, answered, Tradable, WithinLimits}
+use Rattle.ledger.specs.Types.{Trade, Call, Figures, Outcome, Book}
 use Rattle.ledger.proofs.Held.{Held, held, contracts-most}
 
 module _ (b : Book) (w : WithinLimits accounts b) where

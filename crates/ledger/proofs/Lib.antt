@@ -1,6 +1,3 @@
-pub mod Columns
-pub mod Raised
-pub mod Filling
 pub mod Held
 pub mod Passed
 pub mod Answers

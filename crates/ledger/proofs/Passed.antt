@@ -9,19 +9,16 @@ use mathlib.Core.List.{[], _∷_}
 use Prim.Native.Nat.{ℕ}
 use lib.Dec.{eqb}
 use borrow.Author.Tests.{not-false}
-use Rattle.day.specs.declared.trade.Trade.{Trade}
-use Rattle.day.specs.declared.call.Call.{Call}
-use Rattle.figures.specs.declared.Figures.{Figures}
 use Rattle.day.specs.declared.call.Call.the-variants as call
 use Rattle.day.specs.Calls.{onTrade}
-use Rattle.figures.specs.Refusals.{notAllowed, haltForbids, Accounts, noAccounts, sentences, firstMet, figuresRefusal}
+use Rattle.figures.specs.Refusals.{notAllowed, Accounts, noAccounts, sentences, firstMet, figuresRefusal}
 use Rattle.day.specs.Day.{tradeOutside}
 use Rattle.figures.proofs.Passed.{unmet, never-met}
 use Rattle.figures.proofs.Passed.{Passed as PassedFigures}
 use Rattle.figures.proofs.Passed.{passed as passed-figures}
-use Rattle.ledger.specs.declared.Book.{Book}
-use Rattle.ledger.specs.Limits.{withinLimits}
-use Rattle.ledger.specs.Refusals.{accountsOf, sentencesOf, refusal}
+use Rattle.columns.specs.Limits.{accountsOf}
+use Rattle.ledger.specs.Refusals.{sentencesOf, refusal, withinLimits}
+use Rattle.ledger.specs.Types.{Trade, Call, Figures, Book}
 
 pub record Passed (n : ℕ) (b : Book) (c : Call) : Type 0 where
   pub limits : withinLimits n b ≡ true

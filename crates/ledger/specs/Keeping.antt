@@ -5,14 +5,11 @@ use mathlib.Core.Bool.{true}
 use mathlib.Core.List.{List}
 use Prim.Native.Nat.{ℕ}
 use lib.ListN.{length}
-use Rattle.day.specs.declared.call.Call.{Call}
 use Rattle.figures.specs.Figures.{isSize}
-use Rattle.ledger.specs.declared.Book.{Book}
-use Rattle.ledger.specs.Opening.{fresh, opening}
-use Rattle.ledger.specs.Limits.{withinLimits}
 use Rattle.ledger.specs.Effects.{effect}
-use Rattle.ledger.specs.Refusals.{refusal}
-use Rattle.ledger.specs.Step.{run}
+use Rattle.ledger.specs.Refusals.{refusal, withinLimits}
+use Rattle.ledger.specs.Step.{fresh, opening, run}
+use Rattle.ledger.specs.Types.{Call, Book}
 
 -- each column has an entry for each of n accounts
 pub record Shaped (n : ℕ) (b : Book) : Type 0 where

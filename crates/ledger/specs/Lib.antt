@@ -1,9 +1,6 @@
-pub mod Columns
-pub mod Opening
-pub mod Limits
+pub mod Types
 pub mod Effects
 pub mod Refusals
 pub mod Step
-pub mod Report
 pub mod Keeping
 pub mod Inner

@@ -1,37 +1,27 @@
--- Refusals 2, 7 and 8, and the number of any call's refusal.
+-- Refusal 2, the limits on what a book holds, and the number of any call's refusal.
 use mathlib.Core.Bool.{Bool, not, _&&_}
 use mathlib.Core.List.{List, _∷_}
 use Prim.Native.Nat.{ℕ}
-use lib.Dec.{leb, ltb}
 use lib.IntN.{ℤ}
-use Rattle.integers.specs.Size.{within}
-use Rattle.day.specs.declared.trade.Trade.{Trade}
-use Rattle.day.specs.declared.call.Call.{Call}
-use Rattle.figures.specs.declared.Figures.{Figures}
 use Rattle.day.specs.declared.call.Call.the-variants as call
 use Rattle.day.specs.Calls.{onTrade}
-use Rattle.figures.specs.Refusals.{Accounts, noAccounts, sentences, firstMet}
-use Rattle.ledger.specs.declared.Book.{Book}
-use Rattle.ledger.specs.Columns.{entry, countAt}
-use Rattle.ledger.specs.Limits.{mostPosition, mostVolume, withinLimits}
-use Rattle.ledger.specs.Effects.{exchanged, counted}
+use Rattle.day.specs.Limits.{finalHolds}
+use Rattle.figures.specs.Refusals.{noAccounts, sentences, firstMet}
+use Rattle.figures.specs.Figures.{figuresHold}
+use Rattle.columns.specs.Columns.{countAt, allBelow, sumBelow}
+use Rattle.columns.specs.Limits.{accountAt, accountsOf}
+use Rattle.ledger.specs.Types.{Trade, Call, Figures, Book}
 
--- 7: "An account's v would pass 2,000,000". It does not where the v of both accounts stays within its limit.
-abbrev pub volumeStays : List ℕ → Trade → Bool
-volumeStays volume t = leb (countAt (counted volume t) (t .buyer)) mostVolume && leb (countAt (counted volume t) (t .seller)) mostVolume
+-- ---- the limits
 
--- 8: "A position would pass ±1,200,000"
-abbrev pub positionStays : List ℤ → Trade → Bool
-positionStays position t =
-    within (entry (exchanged position t (t .quantity)) (t .buyer)) mostPosition && within (entry (exchanged position t (t .quantity)) (t .seller)) mostPosition
+abbrev pub accountOf : Book → ℕ → Bool
+accountOf b = accountAt (b .figures .closed) (b .opening) (b .position) (b .cost) (b .volume) (b .cash)
 
--- what n accounts with these positions and v say of a trade: both have to be among the n
-abbrev pub accountsOf : ℕ → List ℤ → List ℕ → Trade → Accounts
-accountsOf n position volume t = record {
-  missing = not (ltb (t .buyer) n && ltb (t .seller) n);
-  volume = not (volumeStays volume t);
-  position = not (positionStays position t);
-}
+-- a book of n accounts is within its limits: 01, "final-minute contracts n at most half the sum of all accounts' v"
+unfoldable pub withinLimits : ℕ → Book → Bool
+withinLimits n b = figuresHold (b .figures) && allBelow n (accountOf b) && finalHolds (b .figures .day .trades .settling) (sumBelow n (countAt (b .volume)))
+
+-- ---- refusals
 
 -- the number of a trade's refusal by a book within its limits, 0 where there is none
 abbrev pub tradeRefusal : ℕ → Figures → List ℤ → List ℕ → Trade → ℕ

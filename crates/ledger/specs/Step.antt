@@ -1,15 +1,41 @@
--- A call, and a list of calls, on a book of n accounts.
-use mathlib.Core.Bool.{Bool, cond}
+-- The opening, a call, a list of calls and the report, on a book of n accounts.
+use mathlib.Core.Bool.{Bool, cond, not, _||_}
 use mathlib.Core.List.{List, [], _∷_}
 use Prim.Native.Nat.{ℕ}
 use lib.Dec.{eqb}
+use lib.IntN.{pos, ℤ}
+use lib.ListN.{replicate}
 use Rattle.integers.specs.Lists.{keepIf}
-use Rattle.day.specs.declared.call.Call.{Call}
 use Rattle.figures.specs.Effects.{noFixing, fixingOf}
-use Rattle.ledger.specs.declared.Book.{Book}
-use Rattle.ledger.specs.declared.Answer.{Answer}
+use Rattle.figures.specs.Refusals.{firstMet}
+use Rattle.figures.specs.Figures.{freshFigures}
+use Rattle.figures.specs.Outcome.{opened}
 use Rattle.ledger.specs.Effects.{effect}
-use Rattle.ledger.specs.Refusals.{refusal}
+use Rattle.ledger.specs.Refusals.{refusal, withinLimits}
+use Rattle.ledger.specs.Types.{Call, Figures, Book, Answer}
+
+-- ---- the opening
+
+-- a book of n accounts with these figures, and zeros in every column
+abbrev pub emptyBook : ℕ → Figures → Book
+emptyBook n f = record {
+  figures = f;
+  opening = replicate n (pos 0);
+  position = replicate n (pos 0);
+  cost = replicate n (pos 0);
+  volume = replicate n 0;
+  cash = replicate n (pos 0);
+}
+
+-- 01: "a fresh book holds that size, zeros, and no halt", here over n accounts
+abbrev pub fresh : ℕ → ℕ → Book
+fresh n s = emptyBook n (freshFigures s)
+
+-- 01: "A fresh book is what an accepted opening hands back"; "A refused opening returns an empty book of size 0"
+abbrev pub opening : ℕ → ℕ → Answer
+opening n s = record { code = opened s .code; fixing = opened s .fixing; book = emptyBook n (opened s .figures) }
+
+-- ---- calls
 
 -- 01: "A call is accepted when it returns no refusal number"
 abbrev pub isAccepted : ℕ → Book → Call → Bool
@@ -36,3 +62,13 @@ run n b (c ∷ cs) = run n (step n b c .book) cs
 unfoldable pub acceptedCalls : ℕ → Book → List Call → List Call
 acceptedCalls n b [] = []
 acceptedCalls n b (c ∷ cs) = keepIf (isAccepted n b c) c (acceptedCalls n (step n b c .book) cs)
+
+-- ---- the report
+
+-- 01: "A report checks 2 then 10 and works on any day"; 10: "A report is lent a list that isn't 256 long"
+abbrev pub reportRefusal : ℕ → Book → ℕ → ℕ → ℕ
+reportRefusal n b positions cash = firstMet ((2, not (withinLimits n b)) ∷ (10, not (eqb positions n) || not (eqb cash n)) ∷ [])
+
+-- 01: "The report fills two lent lists …, entry j being account j's position and cash"; a refused one leaves a list as it was
+abbrev pub reported : ℕ → List ℤ → List ℤ → List ℤ
+reported number column list = cond (eqb number 0) column list

@@ -1,12 +1,14 @@
 // The ledger of one contract, from the first quote of a trade date to the cash posted at its close.
 ghost use mathlib.Core.Path.{_≡_};
 ghost use lib.ListN.{length};
-ghost use Rattle.ledger.specs.Columns.{accounts};
-ghost use Rattle.ledger.specs.Limits.{withinLimits};
+ghost use Rattle.columns.specs.Columns.{accounts};
+ghost use Rattle.ledger.specs.Refusals.{withinLimits};
 ghost use Rattle.ledger.specs.Inner.{answerOf};
-ghost use Rattle.ledger.specs.Opening.{opening as Opening·opening};
-ghost use Rattle.ledger.specs.Report.{reportRefusal, reported};
+ghost use Rattle.ledger.specs.Step.{reportRefusal, reported};
+ghost use Rattle.ledger.specs.Step.{opening as Step·opening};
 ghost use Rattle.ledger.specs.Step.{step as Step·step};
+use columns::ACCOUNTS;
+use columns::report::fill;
 use day::call::Call;
 use day::market::Market;
 use day::trade::Trade;
@@ -15,23 +17,12 @@ use figures::outcome::Fixing;
 use figures::outcome::Outcome;
 use figures::product::Product;
 use limits::limits_hold;
-use report::fill;
 use step::tested_step;
 
 mod close;
 mod limits;
-pub mod report;
 pub mod step;
 pub mod trading;
-
-// Accounts are 0 to 255, one byte.
-pub const ACCOUNTS: usize = 256;
-
-pub const MOST_VOLUME: u32 = 2_000_000;
-
-pub const MOST_POSITION: u64 = 1_200_000;
-// What an account's cash may rise or fall by in a day.
-pub const MOST_POSTING: u64 = 2_700_000_000_000_000;
 
 // A contract's book: its figures and, for each account, the opening and the present position, the cost and the contracts
 // bought plus sold today (v), and the cash.
@@ -83,7 +74,7 @@ impl Answer {
 impl Book {
     // A fresh book of this size, or refusal 5 with an empty book of size 0.
     pub fn opening(size: u32) -> Answer
-        ensures { λ r. ⌜ r ≡ Opening·opening accounts size ⌝ }
+        ensures { λ r. ⌜ r ≡ Step·opening accounts size ⌝ }
     {
         Answer::of(
             Product::opening(size),

@@ -1,14 +1,14 @@
 // Any call, on the figures by value and the lent columns.
 ghost use mathlib.Core.Path.{_≡_};
-ghost use Rattle.ledger.specs.Columns.{accounts};
+ghost use Rattle.columns.specs.Columns.{accounts};
 ghost use Rattle.ledger.specs.Keeping.{Shaped};
 ghost use Rattle.ledger.specs.Step.{step};
 ghost use Rattle.ledger.specs.Inner.{bookOf, answerOf, WithinLimits};
 ghost use Rattle.ledger.specs.declared.Book.{Book};
-use crate::ACCOUNTS;
 use crate::close::close_on;
 use crate::limits::limits_hold;
 use crate::trading::trade_on;
+use columns::ACCOUNTS;
 use day::call::Call;
 use figures::Figures;
 use figures::outcome::Outcome;

@@ -28,6 +28,7 @@ use crate::fields::WEIGHTED;
 use crate::numbers::HALF;
 use crate::numbers::as_signed;
 use crate::numbers::of_signed;
+use columns::ACCOUNTS;
 use day::Day;
 use day::Fixed;
 use day::Minutes;
@@ -37,7 +38,6 @@ use day::market::Markets;
 use figures::Figures;
 use funding::FinalMinute;
 use funding::Previous;
-use ledger::ACCOUNTS;
 use ledger::Book;
 
 fn market_number(market: Market) -> u64 {

@@ -14,7 +14,7 @@ use crate::words::SLASH;
 use crate::words::print_after;
 use crate::words::print_name;
 use crate::words::print_word;
-use ledger::ACCOUNTS;
+use columns::ACCOUNTS;
 use ledger::Book;
 use std::num::wrapping_add_usize;
 use std::num::wrapping_sub_usize;

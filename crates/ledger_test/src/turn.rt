@@ -19,8 +19,8 @@ use crate::words::VALID;
 use crate::words::print_after;
 use crate::words::print_word;
 use crate::words::row_numbers;
+use columns::ACCOUNTS;
 use figures::outcome::Fixing;
-use ledger::ACCOUNTS;
 use ledger::Book;
 
 // Nothing where all of it is 0.

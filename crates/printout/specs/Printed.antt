@@ -5,9 +5,9 @@ use lib.Dec.{eqb}
 use lib.IntN.{ℤ, natAbs}
 use Rattle.day.specs.declared.call.Call.{Call}
 use Rattle.day.specs.Calls.{onFix, onClose}
+use Rattle.columns.specs.Columns.{accounts}
 use Rattle.ledger.specs.declared.Book.{Book}
 use Rattle.ledger.specs.declared.Answer.{Answer}
-use Rattle.ledger.specs.Columns.{accounts}
 use Rattle.ledger.specs.Step.{step}
 use Rattle.dayfile.specs.declared.Read.{Read}
 use Rattle.dayfile.specs.declared.Read.the-variants as read

@@ -11,11 +11,11 @@ use Rattle.host.proofs.Settling.{opened-within, ended-within, settled}
 use Rattle.host.specs.Run.{runOver, runFile, taken}
 use Rattle.host.specs.declared.RunEnd.{RunEnd}
 use Rattle.integers.proofs.Tests.{each}
-use Rattle.ledger.specs.Columns.{accounts}
+use Rattle.columns.specs.Columns.{accounts}
 use Rattle.ledger.specs.Inner.{WithinLimits}
 use Rattle.ledger.specs.Keeping.{Shaped}
-use Rattle.ledger.specs.Opening.{opening}
 use Rattle.ledger.specs.declared.Answer.{Answer}
+use Rattle.ledger.specs.Step.{opening}
 use Rattle.host.proofs.funding_run.Statement.{statement}
 use Rattle.host.proofs.funding_run.Tie as tie
 

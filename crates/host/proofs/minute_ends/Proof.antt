@@ -13,11 +13,11 @@ use Rattle.dayfile.specs.Record.{fourBytes, isRecordAt}
 use Rattle.ledger.specs.declared.Book.{Book}
 use Rattle.day.specs.declared.call.Call.{Call}
 use Rattle.day.specs.declared.call.Call.the-variants as call
-use Rattle.ledger.specs.Columns.{accounts}
 use Rattle.ledger.specs.Effects.{effect}
 use Rattle.ledger.specs.Inner.{bookOf, answerOf}
-use Rattle.ledger.specs.Step.{step}
+use Rattle.ledger.specs.Step.{step, opening}
 use Rattle.figures.proofs.Held.{figures-hold}
+use Rattle.columns.specs.Columns.{accounts}
 use Rattle.ledger.proofs.Held.{held}
 use Rattle.ledger.proofs.Lent.{step-within, on-figures}
 use Rattle.host.specs.Running.{Running}

@@ -13,6 +13,7 @@ use Rattle.host.specs.Running.{Running}
 use Rattle.host.specs.Run.{runOver}
 use Rattle.host.proofs.Running.{begins, ends, joined}
 use Rattle.ledger.specs.Inner.{bookOf}
+use Rattle.ledger.specs.Step.{opening}
 use Rattle.host.proofs.run.Statement.{statement}
 use Rattle.host.proofs.run.Tie as tie
 

@@ -16,9 +16,9 @@ use Rattle.ledger.specs.declared.Book.{Book}
 use Rattle.day.specs.declared.trade.Trade.{Trade}
 use Rattle.day.specs.declared.call.Call.{Call}
 use Rattle.day.specs.declared.call.Call.the-variants as call
-use Rattle.ledger.specs.Columns.{accounts}
+use Rattle.columns.specs.Columns.{accounts}
 use Rattle.ledger.specs.Inner.{bookOf}
-use Rattle.ledger.specs.Step.{step}
+use Rattle.ledger.specs.Step.{step, opening}
 use Rattle.ledger.proofs.Lent.{tradable, step-within}
 use Rattle.host.specs.Running.{Running}
 use Rattle.host.proofs.Running.{begins, stepped}

@@ -6,9 +6,9 @@ use lib.Dec.{eqb}
 use lib.ListN.{length}
 use borrow.Author.Tests.{not-true, not-false, eqb-true}
 use borrow.Author.Needs.{needs}
-use Rattle.ledger.specs.Columns.{accounts}
-use Rattle.ledger.specs.Limits.{withinLimits}
 use Rattle.integers.proofs.Tests.{none}
+use Rattle.columns.specs.Columns.{accounts}
+use Rattle.ledger.specs.Refusals.{withinLimits}
 use Rattle.ledger.proofs.Book.report.Statement.{statement}
 use Rattle.ledger.proofs.Book.report.Tie as tie
 

@@ -1,11 +1,11 @@
 -- `ledger::close::close_on` meets its contract: the refusal, or every account's cash posted and the day empty. Assumes nothing.
 use borrow.Author.Needs.{needs}
-use Rattle.ledger.specs.Columns.{accounts}
 use Rattle.figures.specs.Effects.{fixingOf}
 use Rattle.ledger.specs.Effects.{effect}
 use Rattle.ledger.specs.Inner.{bookOf}
 use Rattle.day.specs.declared.call.Call.the-variants as call
 use Rattle.figures.proofs.Held.{held-figures}
+use Rattle.columns.specs.Columns.{accounts}
 use Rattle.ledger.proofs.Answers.{refused-answer, accepted-answer}
 use Rattle.ledger.proofs.close.close_on.Statement.{statement}
 use Rattle.ledger.proofs.close.close_on.Tie as tie

@@ -6,16 +6,16 @@ use mathlib.Core.List.{_∷_, []}
 use lib.Dec.{leb}
 use borrow.Author.Needs.{needs}
 use borrow.Author.Tests.{leb-true, not-true, not-false}
-use Rattle.ledger.specs.declared.Book.{Book}
-use Rattle.ledger.specs.Columns.{accounts, allBelow}
 use Rattle.funding.specs.Price.{noneOrPrice}
 use Rattle.figures.specs.Figures.{isSize, mostDays, figuresHold}
 use Rattle.day.specs.Limits.{dayHolds}
-use Rattle.ledger.specs.Limits.{accountOf, withinLimits}
 use Rattle.ledger.specs.Inner.{bookOf}
-use Rattle.ledger.proofs.Columns.{all-at}
 use Rattle.ledger.proofs.Held.{held-account}
 use Rattle.integers.proofs.Tests.{each}
+use Rattle.columns.specs.Columns.{accounts, allBelow}
+use Rattle.columns.proofs.Columns.{all-at}
+use Rattle.ledger.specs.Types.{Book}
+use Rattle.ledger.specs.Refusals.{accountOf, withinLimits}
 use Rattle.ledger.proofs.limits.limits_hold.Statement.{statement}
 use Rattle.ledger.proofs.limits.limits_hold.Tie as tie
 

@@ -3,13 +3,13 @@ use mathlib.Core.Path.{refl, sym, _∙_, ap}
 use mir.Syntax.{w8}
 use mir.Val.{Fits}
 use borrow.Author.Needs.{needs}
-use Rattle.ledger.specs.Columns.{accounts}
 use Rattle.ledger.specs.Effects.{effect}
 use Rattle.ledger.specs.Inner.{bookOf}
 use Rattle.ledger.specs.Step.{step}
-use Rattle.ledger.specs.declared.Book.{Book}
 use Rattle.day.specs.declared.call.Call.the-variants as call
 use Rattle.figures.proofs.Held.{figures-hold}
+use Rattle.columns.specs.Columns.{accounts}
+use Rattle.ledger.specs.Types.{Book}
 use Rattle.ledger.proofs.Held.{held}
 use Rattle.ledger.proofs.Lent.{tradable, fixable, closable, step-within, on-figures}
 use Rattle.ledger.proofs.step.step_on.Statement.{statement}

@@ -1,14 +1,13 @@
 -- `ledger::step::tested_step` meets its contract: refusal 2, or the call. Assumes nothing.
 use mathlib.Core.Path.{_≡_, sym, _∙_}
-use mathlib.Core.Bool.{Bool, false, true}
+use mathlib.Core.Bool.{false}
 use borrow.Author.Tests.{not-true, not-false}
 use borrow.Author.Needs.{needs}
-use Rattle.ledger.specs.declared.Book.{Book}
-use Rattle.ledger.specs.Columns.{accounts}
-use Rattle.ledger.specs.Limits.{withinLimits}
-use Rattle.ledger.specs.Refusals.{refusal}
+use Rattle.columns.specs.Columns.{accounts}
+use Rattle.ledger.specs.Refusals.{refusal, withinLimits}
 use Rattle.ledger.specs.Step.{step}
 use Rattle.ledger.specs.Inner.{bookOf}
+use Rattle.ledger.specs.Types.{Book}
 use Rattle.ledger.proofs.step.tested_step.Statement.{statement}
 use Rattle.ledger.proofs.step.tested_step.Tie as tie
 

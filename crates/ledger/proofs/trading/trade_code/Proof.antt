@@ -8,8 +8,9 @@ use mir.Val.{Fits}
 use borrow.Author.Tests.{lt-ltb, ne-eqb}
 use borrow.Author.Needs.{needs}
 use Rattle.figures.specs.Refusals.{firstMet}
-use Rattle.ledger.specs.Columns.{accounts}
-use Rattle.ledger.specs.Refusals.{volumeStays, positionStays, accountsOf, tradeRefusal}
+use Rattle.columns.specs.Columns.{accounts}
+use Rattle.columns.specs.Limits.{volumeStays, positionStays, accountsOf}
+use Rattle.ledger.specs.Refusals.{tradeRefusal}
 use Rattle.ledger.proofs.Passed.{trade-number}
 use Rattle.ledger.proofs.trading.trade_code.Statement.{statement}
 use Rattle.ledger.proofs.trading.trade_code.Tie as tie

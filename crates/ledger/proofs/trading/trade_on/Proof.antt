@@ -9,9 +9,9 @@ use Rattle.figures.specs.Effects.{fixingOf}
 use Rattle.day.specs.Day.{mostQuantity}
 use Rattle.figures.proofs.Passed.{passed}
 use Rattle.day.proofs.Keeping.{TradeFields, trade-fields}
-use Rattle.ledger.specs.Columns.{accounts}
+use Rattle.columns.specs.Columns.{accounts}
+use Rattle.columns.specs.Limits.{accountsOf}
 use Rattle.ledger.specs.Effects.{effect}
-use Rattle.ledger.specs.Refusals.{accountsOf}
 use Rattle.ledger.specs.Inner.{bookOf}
 use Rattle.ledger.proofs.Answers.{refused-answer, accepted-answer}
 use Rattle.ledger.proofs.trading.trade_on.Statement.{statement}

@@ -1,0 +1,4 @@
+pub mod Columns
+pub mod Raised
+pub mod Filling
+pub mod PostingSize

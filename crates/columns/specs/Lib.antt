@@ -1,0 +1,4 @@
+pub mod Columns
+pub mod Effects
+pub mod Limits
+pub mod Inner
