@@ -1,9 +1,7 @@
 -- A column of numbers, one for each account, and what is said of every account.
-use mathlib.Core.Bool.{Bool, true, _&&_}
-use mathlib.Core.List.{List, [], _∷_}
+use mathlib.Core.{Bool.Bool, Bool.true, Bool._&&_, List.List, List.[], List._∷_}
 use Prim.Native.Nat.{ℕ, zero, suc, _+_}
-use lib.IntN.{ℤ, pos, _+ℤ_}
-use lib.ListN.{getD, set}
+use lib.{IntN.ℤ, IntN.pos, IntN._+ℤ_, ListN.getD, ListN.set}
 
 -- 01: "Accounts are 0 to 255"
 abbrev pub accounts : ℕ

@@ -8,8 +8,7 @@ use Rattle.columns.specs.Columns.{entry, raise, raiseCount}
 
 -- ---- a trade
 
--- 01: "The buyer's position rises by the quantity and its cost by quantity × price; the seller's fall by the same": the seller's entry is read after the
--- buyer's is written
+-- 01: "The buyer's position rises by the quantity and its cost by quantity × price; the seller's fall by the same": the seller's entry is read after the buyer's is written
 abbrev pub exchanged : List ℤ → Trade → ℕ → List ℤ
 exchanged l t amount = raise (raise l (t .buyer) (pos amount)) (t .seller) (negℤ (pos amount))
 

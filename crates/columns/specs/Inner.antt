@@ -1,17 +1,11 @@
 -- What the functions of this crate require, which columns within their limits have. A reader of the promises can skip this file.
-use mathlib.Core.List.{List}
-use mathlib.Core.Bool.{true}
-use mathlib.Core.Path.{_≡_}
+use mathlib.Core.{List.List, Bool.true, Path._≡_}
 use Prim.Native.Nat.{ℕ, _*_, _+_, _<_, _^_, _≤_}
-use lib.ListN.{length}
-use lib.IntN.{natAbs, ℤ}
+use lib.{ListN.length, IntN.natAbs, IntN.ℤ}
 use Rattle.funding.specs.Price.{largestPrice}
-use Rattle.day.specs.declared.trade.Trade.{Trade}
-use Rattle.day.specs.Day.{mostQuantity}
-use Rattle.figures.specs.declared.Figures.{Figures}
-use Rattle.figures.specs.Figures.{figuresHold, mostDays}
-use Rattle.columns.specs.Columns.{accounts, countAt, entry}
-use Rattle.columns.specs.Limits.{mostPosition, mostPosting, mostVolume}
+use Rattle.day.specs.{declared.trade.Trade.Trade, Day.mostQuantity}
+use Rattle.figures.specs.{declared.Figures.Figures, Figures.figuresHold, Figures.mostDays}
+use Rattle.columns.specs.{Columns.accounts, Columns.countAt, Columns.entry, Limits.mostPosition, Limits.mostPosting, Limits.mostVolume}
 
 -- ---- of a trade
 

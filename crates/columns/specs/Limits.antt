@@ -1,15 +1,12 @@
 -- The limits on an account, in document 01's order, and refusals 7 and 8, by which a trade would pass them.
-use mathlib.Core.Bool.{_&&_, Bool, not}
-use mathlib.Core.List.{List}
+use mathlib.Core.{Bool._&&_, Bool.Bool, Bool.not, List.List}
 use Prim.Native.Nat.{ℕ, _*_}
-use lib.Dec.{leb, ltb}
-use lib.IntN.{ℤ}
+use lib.{Dec.leb, Dec.ltb, IntN.ℤ}
 use Rattle.integers.specs.Size.{within}
 use Rattle.funding.specs.Price.{largestPrice}
 use Rattle.day.specs.declared.trade.Trade.{Trade}
 use Rattle.figures.specs.Refusals.{Accounts}
-use Rattle.columns.specs.Columns.{countAt, entry}
-use Rattle.columns.specs.Effects.{counted, exchanged}
+use Rattle.columns.specs.{Columns.countAt, Columns.entry, Effects.counted, Effects.exchanged}
 
 -- 01: "opening and present position within ±1,200,000, contracts bought plus sold today v at most 2,000,000, signed cost of today (quantity × price)
 -- within v × 50,000,000, cash within closed days × 2,700,000,000,000,000"

@@ -4,7 +4,7 @@
 -- Assumes nothing.
 use mathlib.Core.Path.{_≡_, refl, sym, subst}
 use Prim.Native.Nat.{ℕ}
-use Rattle.day.specs.Types.{Trade, Call}
+use Rattle.day.specs.declared.{trade.Trade.Trade, call.Call.Call}
 use Rattle.day.specs.declared.call.Call.the-variants as call
 use Rattle.day.specs.Calls.{onTrade, onFix, onClose}
 

@@ -20,7 +20,7 @@ use Rattle.funding.specs.Minute.{withinSpread, futuresPrice, basisOf, accrued, 
 use Rattle.funding.specs.declared.Terms.{Terms}
 use Rattle.funding.proofs.Prices.{price-to, the-price}
 use Rattle.funding.proofs.Bounds.{basis-size, futures-is-price, accrued-size}
-use Rattle.day.specs.Types.{Market, Trade, Day}
+use Rattle.day.specs.declared.{market.Market.Market, trade.Trade.Trade, Day.Day}
 use Rattle.day.specs.Day.{dayLength, noMarket, emptyDay, isFixed, twoSided, inLastMinute, simple, block, asMinute, isValid, minuteOf, mostQuantity, leastBlock, tradeOutside}
 use Rattle.day.specs.Effects.{withMarkets, minuteEnded, withMinutes, nextMinute}
 use Rattle.day.specs.Limits.{marketHolds, minuteMarketHolds, marketsHold, dayHolds}

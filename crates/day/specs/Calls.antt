@@ -1,6 +1,6 @@
 -- What is said of calls of one kind, and `other` of all others.
 use Prim.Native.Nat.{ℕ}
-use Rattle.day.specs.Types.{Market, Trade, Call}
+use Rattle.day.specs.declared.{market.Market.Market, trade.Trade.Trade, call.Call.Call}
 use Rattle.day.specs.declared.call.Call.the-variants as call
 
 module _ {A : Type 0} where

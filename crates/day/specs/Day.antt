@@ -1,13 +1,10 @@
 -- A trade date by its parts, the numbers in force on it, and the rules of its minutes.
 use mathlib.Core.Bool.{Bool, not, cond, _&&_, _||_}
 use Prim.Native.Nat.{ℕ, _+_, _*_}
-use lib.Dec.{leb, ltb, eqb}
-use lib.IntN.{pos}
-use Rattle.funding.specs.declared.Terms.{Terms}
-use Rattle.funding.specs.declared.FinalMinute.{FinalMinute}
-use Rattle.funding.specs.Price.{isPrice, isTicked, isPresent}
+use lib.{Dec.leb, Dec.ltb, Dec.eqb, IntN.pos}
+use Rattle.funding.specs.{declared.Terms.Terms, declared.FinalMinute.FinalMinute, Price.isPrice, Price.isTicked, Price.isPresent}
 use Rattle.funding.specs.Minute.{Minute, withinSpread, futuresPrice, mostMinutes}
-use Rattle.day.specs.Types.{Market, Markets, Trade, Day}
+use Rattle.day.specs.declared.{market.Market.Market, market.Markets.Markets, trade.Trade.Trade, Day.Day}
 
 -- its minutes: document 01's on every day
 abbrev pub dayLength : Day → ℕ

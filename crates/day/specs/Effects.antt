@@ -3,7 +3,7 @@ use mathlib.Core.Bool.{Bool, cond}
 use Prim.Native.Nat.{ℕ, _+_}
 use lib.IntN.{ℤ}
 use Rattle.funding.specs.Minute.{basisOf, accrued}
-use Rattle.day.specs.Types.{Market, Markets, Trade, Minutes, Trades, Fixed, Day}
+use Rattle.day.specs.declared.{market.Market.Market, market.Markets.Markets, trade.Trade.Trade, Minutes.Minutes, Trades.Trades, Fixed.Fixed, Day.Day}
 use Rattle.day.specs.Day.{dayLength, noMarket, inLastMinute, isFinal, withTrade, asMinute, minuteOf}
 
 -- ---- a part of a day, changed
@@ -38,8 +38,7 @@ abbrev pub weightedAfter : Day → Bool → ℕ → ℤ
 weightedAfter d valid u =
     cond valid (accrued (d .minutes .weighted) (d .minutes .valid) (basisOf (minuteOf (d .markets .minute) (d .trades .last) u .F) u)) (d .minutes .weighted)
 
--- 01: "k rises by 1; S rises by k × basis. An invalid minute changes neither. Ended minutes rise by 1 in both cases. …
--- The u of minute 1,320 is the day's index"
+-- 01: "k rises by 1; S rises by k × basis. An invalid minute changes neither. Ended minutes rise by 1 in both cases. … The u of minute 1,320 is the day's index"
 abbrev pub minuteEnded : Day → Bool → ℕ → Minutes
 minuteEnded d valid u = record {
   ended = d .minutes .ended + 1;

@@ -1,11 +1,8 @@
 -- What the functions of this crate require, which figures within their limits have. A reader of the promises can skip this file.
-use mathlib.Core.Path.{_≡_}
-use mathlib.Core.Bool.{Bool, true}
+use mathlib.Core.{Path._≡_, Bool.Bool, Bool.true}
 use Prim.Native.Nat.{ℕ, _+_, _*_, _<_, _≤_, _^_}
-use Rattle.funding.specs.declared.FinalMinute.{FinalMinute}
-use Rattle.funding.specs.Minute.{basisOf, mostMinutes, Accrues}
-use Rattle.day.specs.Types.{Trade, Day}
-use Rattle.day.specs.Day.{minuteOf}
+use Rattle.funding.specs.{declared.FinalMinute.FinalMinute, Minute.basisOf, Minute.mostMinutes, Minute.Accrues}
+use Rattle.day.specs.{declared.trade.Trade.Trade, declared.Day.Day, Day.minuteOf}
 
 -- n and the gross have room for a trade
 pub record RoomForTrade (m : FinalMinute) (t : Trade) : Type 0 where

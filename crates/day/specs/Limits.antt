@@ -3,11 +3,8 @@ use mathlib.Core.Bool.{Bool, not, _&&_, _||_}
 use Prim.Native.Nat.{ℕ, _*_}
 use lib.Dec.{leb, ltb, eqb}
 use Rattle.integers.specs.Size.{within}
-use Rattle.funding.specs.declared.FinalMinute.{FinalMinute}
-use Rattle.funding.specs.Price.{leastPrice, largestPrice, noneOrPrice, noneOrTicked}
-use Rattle.funding.specs.Minute.{weightedLimit}
-use Rattle.day.specs.Types.{Market, Markets, Day}
-use Rattle.day.specs.Day.{dayLength, twoSided, isFixed}
+use Rattle.funding.specs.{declared.FinalMinute.FinalMinute, Price.leastPrice, Price.largestPrice, Price.noneOrPrice, Price.noneOrTicked, Minute.weightedLimit}
+use Rattle.day.specs.{declared.market.Market.Market, declared.market.Markets.Markets, declared.Day.Day, Day.dayLength, Day.twoSided, Day.isFixed}
 
 -- 01: "ended minutes 0 to 1,320; valid count k at most the ended minutes; weighted sum S at most 9,999 × 10^9 × k(k+1)/2 in size"
 abbrev pub minutesHold : Day → Bool

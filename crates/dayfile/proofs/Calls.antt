@@ -12,8 +12,7 @@ use lib.ListN.{length}
 use Rattle.day.specs.declared.call.Call.{Call}
 use Rattle.dayfile.specs.declared.Read.{Read}
 use Rattle.dayfile.specs.declared.Read.the-variants as read
-use Rattle.dayfile.specs.Record.{readAt}
-use Rattle.dayfile.specs.Forward.{Onward}
+use Rattle.dayfile.specs.Record.{readAt, Onward}
 use Rattle.dayfile.specs.Calls.{followed, recordsWithin, recordsFrom, callsIn, callsFrom}
 use Rattle.dayfile.proofs.Reading.{at-end}
 use Rattle.dayfile.proofs.Forward.{forward}

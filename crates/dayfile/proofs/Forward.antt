@@ -13,8 +13,7 @@ use Rattle.integers.proofs.Tests.{by-test}
 use Rattle.dayfile.specs.declared.Tagged.{Tagged}
 use Rattle.dayfile.specs.declared.Tagged.the-variants as tagged
 use Rattle.dayfile.specs.declared.Read.{Read}
-use Rattle.dayfile.specs.Record.{byteAt, tagOf, bodyLength, statedLength, nextAt, complete, readAt}
-use Rattle.dayfile.specs.Forward.{Onward, Forward}
+use Rattle.dayfile.specs.Record.{byteAt, tagOf, bodyLength, statedLength, nextAt, complete, readAt, Onward, Forward}
 
 complete-onward : (file : List ℕ) (at : ℕ) (t : Tagged) → nextAt file at ≤ length file → Onward file at (complete file at t)
 complete-onward file at tagged.Unknown h = (omega arith, h)

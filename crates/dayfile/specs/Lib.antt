@@ -1,4 +1,3 @@
 pub mod Record
-pub mod Forward
 pub mod Calls
 pub mod Example

@@ -1,18 +1,12 @@
 -- What stands at a place of a day file: the format of document 01, sentence by sentence.
-use Prim.Native.Nat.{ℕ, _+_, _*_}
-use mathlib.Core.List.{List}
-use mathlib.Core.Bool.{Bool, cond, _&&_}
-use lib.ListN.{length, getD}
-use lib.Dec.{ltb, leb, eqb}
-use Rattle.day.specs.declared.market.Market.{Market}
-use Rattle.day.specs.declared.trade.Trade.{Trade}
-use Rattle.day.specs.declared.call.Call.{Call}
+use Prim.Native.Nat.{ℕ, _+_, _*_, _≤_}
+use mathlib.Core.{List.List, Bool.Bool, Bool.cond, Bool._&&_}
+use lib.{ListN.length, ListN.getD, Dec.ltb, Dec.leb, Dec.eqb}
+use Rattle.day.specs.declared.{market.Market.Market, trade.Trade.Trade, call.Call.Call}
 use Rattle.day.specs.declared.call.Call.the-variants as call
-use Rattle.dayfile.specs.declared.Tag.{Tag}
+use Rattle.dayfile.specs.declared.{Tag.Tag, Tagged.Tagged, Read.Read}
 use Rattle.dayfile.specs.declared.Tag.the-variants as tag
-use Rattle.dayfile.specs.declared.Tagged.{Tagged}
 use Rattle.dayfile.specs.declared.Tagged.the-variants as tagged
-use Rattle.dayfile.specs.declared.Read.{Read}
 use Rattle.dayfile.specs.declared.Read.the-variants as read
 
 -- a byte of a file; 0 past the file's end
@@ -107,7 +101,22 @@ readAt file at =
     (cond (ltb (length file) (nextAt file at)) read.CutOff
     (complete file at (tagOf (byteAt file at))))
 
--- whether a complete record of this tag and of its length stands at a place: `readAt` then gives its call (proved in
--- proofs/Reading.antt)
+-- whether a complete record of this tag and of its length stands at a place: `readAt` then gives its call (proved in proofs/Reading.antt)
 abbrev pub isRecordAt : List ℕ → ℕ → Tag → Bool
 isRecordAt file at t = leb (bodyAt at + bodyLength t) (length file) && eqb (byteAt file at) (byteOf t) && eqb (statedLength file at) (bodyLength t)
+
+-- the reader goes forward: it passes at least the three bytes of a record's tag and length, and never leaves the file. So a run over a file ends
+abbrev pub Within : List ℕ → ℕ → ℕ → Type 0
+Within file at next = (at + 3 ≤ next) × (next ≤ length file)
+
+-- where what was read at a place names the next place, that one is forward and within the file
+abbrev pub Onward : List ℕ → ℕ → Read → Type 0
+Onward file at read.End = Unit {0}
+Onward file at read.CutOff = Unit {0}
+Onward file at (read.Known next c) = Within file at next
+Onward file at (read.WrongLength next) = Within file at next
+Onward file at (read.Unknown next) = Within file at next
+
+-- of every file and at every place: proved in proofs/Forward.antt
+abbrev pub Forward : Type 0
+Forward = (file : List ℕ) (at : ℕ) → Onward file at (readAt file at)

@@ -14,7 +14,7 @@ use Rattle.integers.proofs.Tests.{tests, _and_, each}
 use Rattle.funding.specs.Price.{noneOrPrice}
 use Rattle.day.specs.Limits.{dayHolds}
 use Rattle.day.proofs.Held.{HeldDay, held-day, day-holds}
-use Rattle.figures.specs.Types.{Figures}
+use Rattle.figures.specs.declared.Figures.{Figures}
 use Rattle.figures.specs.Figures.{hundredth, tenth, isSize, mostDays, figuresHold}
 
 pub record HeldFigures (f : Figures) : Type 0 where

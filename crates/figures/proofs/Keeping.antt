@@ -18,7 +18,8 @@ use Rattle.funding.specs.Terms.{clamp}
 use Rattle.funding.specs.Fixing.{rateOf}
 use Rattle.funding.proofs.Prices.{none-or-price, price-most}
 use Rattle.funding.proofs.Bounds.{clamped-size, amount-size, settlement-is-price}
-use Rattle.figures.specs.Types.{Market, Trade, Call, Day, Figures}
+use Rattle.day.specs.declared.{market.Market.Market, trade.Trade.Trade, call.Call.Call, Day.Day}
+use Rattle.figures.specs.declared.Figures.{Figures}
 use Rattle.day.specs.declared.call.Call.the-variants as call
 use Rattle.day.specs.Day.{dayLength, noMarket, isFixed, asMinute}
 use Rattle.figures.specs.Figures.{termsOn, tieOn, tenth, mostDays}

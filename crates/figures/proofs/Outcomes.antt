@@ -5,7 +5,8 @@
 use mathlib.Core.Path.{_≡_, _∙_}
 use Prim.Native.Nat.{ℕ}
 use borrow.Author.Tests.{ne-eqb}
-use Rattle.figures.specs.Types.{Call, Figures, Outcome}
+use Rattle.day.specs.declared.call.Call.{Call}
+use Rattle.figures.specs.declared.{Figures.Figures, outcome.Outcome.Outcome}
 use Rattle.figures.specs.Effects.{figuresAfter, fixingOf}
 use Rattle.figures.specs.Refusals.{figuresRefusal}
 use Rattle.figures.specs.Outcome.{numbered, outcome}

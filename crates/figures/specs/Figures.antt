@@ -2,14 +2,10 @@
 use mathlib.Core.Bool.{Bool, false, _&&_, _||_}
 use Prim.Native.Nat.{ℕ}
 use lib.Dec.{leb, eqb}
-use Rattle.integers.specs.declared.Tie.{Tie}
-use Rattle.integers.specs.declared.Tie.the-variants.{Even}
-use Rattle.funding.specs.declared.Terms.{Terms}
-use Rattle.funding.specs.Terms.{standardTerms}
-use Rattle.funding.specs.Price.{noneOrPrice}
-use Rattle.day.specs.Day.{emptyDay}
-use Rattle.day.specs.Limits.{dayHolds}
-use Rattle.figures.specs.Types.{Figures}
+use Rattle.integers.specs.declared.{Tie.Tie, Tie.the-variants.Even}
+use Rattle.funding.specs.{declared.Terms.Terms, Terms.standardTerms, Price.noneOrPrice}
+use Rattle.day.specs.{Day.emptyDay, Limits.dayHolds}
+use Rattle.figures.specs.declared.Figures.{Figures}
 
 -- the terms and the rule for ties in force on the open day: document 01's on every day
 abbrev pub termsOn : Figures → Terms

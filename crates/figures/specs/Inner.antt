@@ -2,9 +2,8 @@
 use mathlib.Core.Bool.{Bool}
 use Prim.Native.Nat.{_*_, _≤_}
 use Rattle.funding.specs.Price.{largestPrice}
-use Rattle.figures.specs.Types.{Day, Figures, Fixing, Outcome}
-use Rattle.figures.specs.Figures.{tenth}
-use Rattle.figures.specs.Effects.{withDay}
+use Rattle.day.specs.declared.Day.{Day}
+use Rattle.figures.specs.{declared.Figures.Figures, declared.outcome.Fixing.Fixing, declared.outcome.Outcome.Outcome, Figures.tenth, Effects.withDay}
 
 -- the figures of a fix fit
 pub record Fixable (f : Figures) : Type 0 where

@@ -1,4 +1,3 @@
-pub mod Types
 pub mod Figures
 pub mod Effects
 pub mod Refusals

@@ -1,13 +1,10 @@
 -- What a call makes of the figures.
-use mathlib.Core.Path.{_≡_}
-use mathlib.Core.Bool.{true, cond}
+use mathlib.Core.{Path._≡_, Bool.true, Bool.cond}
 use Prim.Native.Nat.{ℕ}
 use lib.Dec.{eqb}
-use Rattle.figures.specs.Types.{Call, Figures, Outcome}
-use Rattle.figures.specs.Effects.{noFixing, figuresAfter, fixingOf}
-use Rattle.day.specs.Limits.{finalHolds}
-use Rattle.figures.specs.Figures.{figuresHold, freshFigures, isSize}
-use Rattle.figures.specs.Refusals.{figuresRefusal}
+use Rattle.day.specs.{declared.call.Call.Call, Limits.finalHolds}
+use Rattle.figures.specs.{declared.Figures.Figures, declared.outcome.Outcome.Outcome, Effects.noFixing, Effects.figuresAfter, Effects.fixingOf}
+use Rattle.figures.specs.{Figures.figuresHold, Figures.freshFigures, Figures.isSize, Refusals.figuresRefusal}
 
 -- figures with a refusal's number, 0 for none, and no fix
 abbrev pub numbered : Figures → ℕ → Outcome

@@ -1,15 +1,12 @@
 -- Refusals 3 to 9, in document 01's order: a number comes if its sentence is met, and only then.
-use mathlib.Core.Bool.{Bool, false, not, cond, _&&_, _||_}
-use mathlib.Core.List.{List, [], _∷_}
+use mathlib.Core.{Bool.Bool, Bool.false, Bool.not, Bool.cond, Bool._&&_, Bool._||_, List.List, List.[], List._∷_}
 use Prim.Native.Nat.{ℕ}
 use lib.Dec.{leb}
 use Rattle.funding.specs.Price.{isPresent, noneOrPrice, noneOrTicked}
-use Rattle.figures.specs.Types.{Call, Day, Figures}
+use Rattle.day.specs.declared.{call.Call.Call, Day.Day}
 use Rattle.day.specs.Calls.{onQuote, onTrade, onHalt, onResume, onMinuteEnd, onFix, onClose}
-use Rattle.day.specs.Day.{isFixed, tradeOutside, forbidsFix, forbidsMinuteEnd}
-use Rattle.figures.specs.Figures.{mostDays}
-use Rattle.day.specs.Limits.{uncrossed}
-use Rattle.figures.specs.Effects.{fixPrice}
+use Rattle.day.specs.{Day.isFixed, Day.tradeOutside, Day.forbidsFix, Day.forbidsMinuteEnd, Limits.uncrossed}
+use Rattle.figures.specs.{declared.Figures.Figures, Figures.mostDays, Effects.fixPrice}
 
 -- 3: "any call on a book with 2,600 closed days"
 abbrev pub isFull : Figures → Bool

@@ -1,16 +1,9 @@
 -- A fix's figures: rate, clamped rate, amount and settlement price.
 use mathlib.Core.Bool.{cond, _&&_}
 use Prim.Native.Nat.{ℕ, _+_, _-_, _*_, _/_}
-use lib.Dec.{eqb}
-use lib.IntN.{ℤ, pos, negℤ, _*ℤ_}
-use lib.Signed.{ltZ}
-use Rattle.integers.specs.declared.Tie.{Tie}
-use Rattle.integers.specs.Rounding.{halfEven, nearest, rounded}
-use Rattle.integers.specs.declared.Tie.the-variants.{Even}
-use Rattle.funding.specs.declared.Terms.{Terms}
-use Rattle.funding.specs.declared.FinalMinute.{FinalMinute}
-use Rattle.funding.specs.declared.Previous.{Previous}
-use Rattle.funding.specs.Price.{isPrice, isPresent}
+use lib.{Dec.eqb, IntN.ℤ, IntN.pos, IntN.negℤ, IntN._*ℤ_, Signed.ltZ}
+use Rattle.integers.specs.{declared.Tie.Tie, Rounding.halfEven, Rounding.nearest, Rounding.rounded, declared.Tie.the-variants.Even}
+use Rattle.funding.specs.{declared.Terms.Terms, declared.FinalMinute.FinalMinute, declared.Previous.Previous, Price.isPrice, Price.isPresent}
 
 -- 01: "Rate = half-even of S / (k(k+1)/2), or 0 when k = 0"
 abbrev pub rateOf : ℕ → ℤ → ℤ

@@ -1,15 +1,9 @@
 -- A minute's figures: spread test, futures price, basis, and the weighted sum over the day's valid minutes.
-use mathlib.Core.Path.{_≡_}
-use mathlib.Core.Bool.{Bool, cond, _&&_}
-use mathlib.Core.List.{List, [], _∷_}
+use mathlib.Core.{Path._≡_, Bool.Bool, Bool.cond, Bool._&&_, List.List, List.[], List._∷_}
 use Prim.Native.Nat.{ℕ, _+_, _-_, _*_, _/_, _<_, _≤_}
-use lib.Dec.{leb}
-use lib.ListN.{length}
-use lib.IntN.{ℤ, pos, natAbs, _+ℤ_, _-ℤ_, _*ℤ_}
+use lib.{Dec.leb, ListN.length, IntN.ℤ, IntN.pos, IntN.natAbs, IntN._+ℤ_, IntN._-ℤ_, IntN._*ℤ_}
 use Rattle.integers.specs.Rounding.{halfEven}
-use Rattle.funding.specs.declared.Terms.{Terms}
-use Rattle.funding.specs.Price.{isPresent}
-use Rattle.funding.specs.Terms.{spreadLimit}
+use Rattle.funding.specs.{declared.Terms.Terms, Price.isPresent, Terms.spreadLimit}
 
 -- 001: the midpoint normalized spread (a − b) / ((a + b) / 2) of the market (b, a) doesn't exceed the limit, which is in units of 0.0001
 abbrev pub withinSpread : Terms → ℕ → ℕ → Bool

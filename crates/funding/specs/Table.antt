@@ -1,14 +1,9 @@
 -- The fourteen rows that document 01 marks for proof, as one table over the definitions.
-use mathlib.Core.Path.{_≡_}
-use mathlib.Core.Bool.{Bool, true, false}
-use mathlib.Core.List.{List, [], _∷_, reverse}
+use mathlib.Core.{Path._≡_, Bool.Bool, Bool.true, Bool.false, List.List, List.[], List._∷_, List.reverse}
 use Prim.Native.Nat.{ℕ}
-use lib.IntN.{ℤ, pos, negℤ}
-use lib.ListN.{length}
-use Rattle.integers.specs.declared.Tie.the-variants.{Even}
-use Rattle.integers.specs.Lists.{Every}
-use Rattle.funding.specs.Terms.{standardTerms}
-use Rattle.funding.specs.Minute.{withinSpread, basisOf, Minute, weightedSum}
+use lib.{IntN.ℤ, IntN.pos, IntN.negℤ, ListN.length}
+use Rattle.integers.specs.{declared.Tie.the-variants.Even, Lists.Every}
+use Rattle.funding.specs.{Terms.standardTerms, Minute.withinSpread, Minute.basisOf, Minute.Minute, Minute.weightedSum}
 use Rattle.funding.specs.Fixing.{rateOf, clampedTo, amountOf}
 
 pub data Row : Type 0 where
@@ -34,23 +29,13 @@ Holds (spread b a result) = withinSpread standardTerms b a ≡ result
 abbrev minute : ℕ → ℕ → Minute
 minute F u = record { F = F; u = u }
 
-abbrev first : Minute
-first = minute 8391035 8391603
-
-abbrev second : Minute
-second = minute 8396580 8398313
-
-abbrev third : Minute
-third = minute 8398605 8399016
-
-abbrev fourth : Minute
-fourth = minute 8399460 8399921
-
-abbrev fifth : Minute
-fifth = minute 8400790 8404832
-
 abbrev pub table : List Row
 table =
+    let first = minute 8391035 8391603 in
+    let second = minute 8396580 8398313 in
+    let third = minute 8398605 8399016 in
+    let fourth = minute 8399460 8399921 in
+    let fifth = minute 8400790 8404832 in
     basis 8391035 8391603 (negℤ (pos 67687))
     ∷ basis 8396580 8398313 (negℤ (pos 206351))
     ∷ basis 8398605 8399016 (negℤ (pos 48934))

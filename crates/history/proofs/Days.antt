@@ -19,7 +19,7 @@ use Rattle.day.proofs.Calls as calls
 use Rattle.ledger.proofs.Held.{held}
 use Rattle.ledger.proofs.Passed.{Passed}
 use Rattle.history.specs.History.{History, Moment, lengthOf, closings, today, fixes, minutes}
-use Rattle.history.specs.Settlements.{atFix, priceOn}
+use Rattle.history.specs.Cash.{atFix, priceOn}
 use Rattle.history.specs.Demand3.{callsOfDays, Whole}
 use Rattle.history.proofs.Kept.{figuresFrom, bookFrom}
 use Rattle.history.proofs.Accepted.{AllPassed}

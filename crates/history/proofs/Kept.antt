@@ -11,7 +11,7 @@ use lib.ListN.{length, replicate, set}
 use Rattle.integers.specs.Lists.{keepIf, sumCount, sum}
 use Rattle.integers.proofs.Ring.{ring, _⊕_, _⊖_, _⊗_, ⊝_, num}
 use Rattle.funding.specs.Minute.{weightedSum}
-use Rattle.columns.specs.Columns.{table}
+use Rattle.columns.specs.Columns.{table, raise, raiseCount}
 use Rattle.day.specs.declared.trade.Trade.{Trade}
 use Rattle.day.specs.declared.call.Call.{Call}
 use Rattle.day.specs.declared.Day.{Day}
@@ -22,15 +22,13 @@ use Rattle.day.specs.Effects.{traded, minuteEnded}
 use Rattle.figures.specs.Effects.{figuresAfter}
 use Rattle.day.proofs.Calls.{TradeOr, trade, CloseOr, close, trade-or, close-or}
 use Rattle.day.proofs.Calls as calls
-use Rattle.columns.specs.Columns.{raise, raiseCount}
 use Rattle.columns.specs.Effects.{exchanged, counted, posting}
 use Rattle.columns.proofs.Columns.{table-at}
 use Rattle.ledger.specs.declared.Book.{Book}
 use Rattle.ledger.specs.Effects.{withFigures, tradedBook, closedBook, cashAfter, effect}
 use Rattle.ledger.specs.Step.{fresh}
 use Rattle.history.specs.History.{History, lengthOf, halted, market, minuteMarket, last, closings, today, closedPart, trades, minuteEnds, fixes, minutes, endsValid, validOf, validMinutes, finalTrades}
-use Rattle.history.specs.Settlements.{finalMinute, indexOf, indexOn, atFix, previousOf, priceOn, lastPrice, amountOn}
-use Rattle.history.specs.Cash.{ofAccount, signed, net, yield, paid, cashOf}
+use Rattle.history.specs.Cash.{finalMinute, indexOf, indexOn, atFix, previousOf, priceOn, lastPrice, amountOn, ofAccount, signed, net, yield, paid, cashOf}
 use Rattle.history.proofs.Columns.{table-ext, replicate-table, raise-table, raiseCount-table}
 
 -- ---- the book of a history

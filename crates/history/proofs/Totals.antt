@@ -9,8 +9,7 @@ use Rattle.day.specs.declared.call.Call.the-variants as call
 use Rattle.day.proofs.Calls.{on-trade-is}
 use Rattle.ledger.proofs.KeepingTrade.{in-range}
 use Rattle.history.specs.History.{History, closings, closedPart, trades}
-use Rattle.history.specs.Settlements.{lastPrice, amountOn}
-use Rattle.history.specs.Cash.{ofAccount, signed, net, yield, paid, cashOf}
+use Rattle.history.specs.Cash.{lastPrice, amountOn, ofAccount, signed, net, yield, paid, cashOf}
 use Rattle.history.proofs.Sums.{overAll, all-add, all-account, scaled-cancels, sum-cancels}
 use Rattle.history.proofs.Accepted.{AllPassed}
 use Rattle.history.proofs.Days.{closes-passed}

@@ -6,19 +6,15 @@
 --   the positions of all accounts add up to zero, and so does their cash;
 --   the history is its closed days and the open day put together, with no call left out or counted twice;
 --   every closed day has all of its minute ends and one fix, so that "its one accepted fix" names one P and one amount.
-use mathlib.Core.Path.{_≡_}
-use mathlib.Core.List.{List, [], _∷_, _++_, reverse}
+use mathlib.Core.{Path._≡_, List.List, List.[], List._∷_, List._++_, List.reverse}
 use Prim.Native.Nat.{ℕ, _<_}
-use lib.IntN.{ℤ, pos}
-use lib.ListN.{length}
+use lib.{IntN.ℤ, IntN.pos, ListN.length}
 use Rattle.integers.specs.Lists.{Every, sum}
 use Rattle.day.specs.declared.call.Call.{Call}
 use Rattle.day.specs.declared.call.Call.the-variants as call
 use Rattle.columns.specs.Columns.{entry}
-use Rattle.ledger.specs.declared.Book.{Book}
-use Rattle.ledger.specs.Step.{run, acceptedCalls, opening}
-use Rattle.history.specs.History.{History, lengthOf, closings, today, minuteEnds, fixes}
-use Rattle.history.specs.Cash.{net, cashOf}
+use Rattle.ledger.specs.{declared.Book.Book, Step.run, Step.acceptedCalls, Step.opening}
+use Rattle.history.specs.{History.History, History.lengthOf, History.closings, History.today, History.minuteEnds, History.fixes, Cash.net, Cash.cashOf}
 
 -- the book of n accounts, opened with the size s, after the calls cs
 abbrev pub after : ℕ → ℕ → List Call → Book

@@ -1,18 +1,11 @@
 -- Demand 3's figures, from the accepted calls alone: the market, the days, and each day's trades, minutes and fixes.
 -- A history is the accepted calls with the latest first: `c ∷ h` is the call c after those of h. Nothing here reads a book.
-use mathlib.Core.Bool.{Bool, true, false}
-use mathlib.Core.List.{List, [], _∷_}
+use mathlib.Core.{Bool.Bool, Bool.true, Bool.false, List.List, List.[], List._∷_}
 use Prim.Native.Nat.{ℕ}
 use lib.ListN.{length}
-use Rattle.integers.specs.declared.Tie.{Tie}
-use Rattle.integers.specs.declared.Tie.the-variants.{Even}
-use Rattle.integers.specs.Lists.{keepIf}
-use Rattle.funding.specs.declared.Terms.{Terms}
-use Rattle.funding.specs.Terms.{standardTerms}
-use Rattle.funding.specs.Minute.{Minute, mostMinutes}
-use Rattle.day.specs.declared.market.Market.{Market}
-use Rattle.day.specs.declared.trade.Trade.{Trade}
-use Rattle.day.specs.declared.call.Call.{Call}
+use Rattle.integers.specs.{declared.Tie.Tie, declared.Tie.the-variants.Even, Lists.keepIf}
+use Rattle.funding.specs.{declared.Terms.Terms, Terms.standardTerms, Minute.Minute, Minute.mostMinutes}
+use Rattle.day.specs.declared.{market.Market.Market, trade.Trade.Trade, call.Call.Call}
 use Rattle.day.specs.Calls.{onQuote, onTrade, onHalt, onResume, onMinuteEnd, onFix, onClose}
 use Rattle.day.specs.Day.{noMarket, asMinute, isFinal, isValid, minuteOf}
 

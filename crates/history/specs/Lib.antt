@@ -1,4 +1,3 @@
 pub mod History
-pub mod Settlements
 pub mod Cash
 pub mod Demand3

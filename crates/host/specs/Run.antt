@@ -1,17 +1,11 @@
 -- The run over a file for programs in C: what it answers, what it leaves in the lent lists, and what demand 3 says of them.
-use mathlib.Core.Path.{_≡_}
-use mathlib.Core.Bool.{Bool, true, cond, _&&_}
-use mathlib.Core.List.{List}
+use mathlib.Core.{Path._≡_, Bool.Bool, Bool.true, Bool.cond, Bool._&&_, List.List}
 use Prim.Native.Nat.{ℕ, _<_}
-use lib.Dec.{eqb}
-use lib.IntN.{ℤ, pos}
-use lib.ListN.{length}
+use lib.{Dec.eqb, IntN.ℤ, IntN.pos, ListN.length}
 use Rattle.day.specs.declared.call.Call.{Call}
 use Rattle.columns.specs.Columns.{accounts, entry}
-use Rattle.ledger.specs.declared.Book.{Book}
-use Rattle.ledger.specs.Step.{run, acceptedCalls, opening}
-use Rattle.history.specs.Cash.{net, cashOf}
-use Rattle.history.specs.Demand3.{history, total}
+use Rattle.ledger.specs.{declared.Book.Book, Step.run, Step.acceptedCalls, Step.opening}
+use Rattle.history.specs.{Cash.net, Cash.cashOf, Demand3.history, Demand3.total}
 use Rattle.dayfile.specs.Calls.{callsOf}
 use Rattle.host.specs.declared.RunEnd.{RunEnd}
 

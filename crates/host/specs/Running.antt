@@ -1,13 +1,10 @@
 -- What the private loops of a run promise each other: a part of the run that may stop anywhere and leads to the same end. What a
 -- whole run promises is in Run.antt; a reader of that can skip this file.
-use mathlib.Core.Path.{_≡_}
-use mathlib.Core.List.{List}
+use mathlib.Core.{Path._≡_, List.List}
 use Prim.Native.Nat.{ℕ, _+_, _≤_}
 use lib.ListN.{length}
 use Rattle.columns.specs.Columns.{accounts}
-use Rattle.ledger.specs.declared.Book.{Book}
-use Rattle.ledger.specs.Step.{run, acceptedCalls}
-use Rattle.ledger.specs.Inner.{WithinLimits}
+use Rattle.ledger.specs.{declared.Book.Book, Step.run, Step.acceptedCalls, Inner.WithinLimits}
 use Rattle.dayfile.specs.Calls.{callsFrom}
 
 -- a book within its limits, at a place of a file and with this many accepted records

@@ -1,11 +1,8 @@
 -- Rounding of x / d to the nearest whole number, for either sign of x.
-use mathlib.Core.Path.{_≡_}
-use mathlib.Core.Bool.{cond}
+use mathlib.Core.{Path._≡_, Bool.cond}
 use Prim.Native.Nat.{ℕ, _+_, _*_, _/_, _%_, _<_, _≤_}
-use lib.Dec.{ltb}
-use lib.IntN.{ℤ, pos, negsuc, negℤ, natAbs, _-ℤ_, _*ℤ_}
-use Rattle.integers.specs.declared.Tie.{Tie}
-use Rattle.integers.specs.declared.Tie.the-variants.{Even, Away}
+use lib.{Dec.ltb, IntN.ℤ, IntN.pos, IntN.negsuc, IntN.negℤ, IntN.natAbs, IntN._-ℤ_, IntN._*ℤ_}
+use Rattle.integers.specs.declared.{Tie.Tie, Tie.the-variants.Even, Tie.the-variants.Away}
 
 -- n with the sign of x
 abbrev pub withSignOf : ℤ → ℕ → ℤ

@@ -1,8 +1,7 @@
 -- The size of a signed number, held to a limit.
 use mathlib.Core.Bool.{Bool}
 use Prim.Native.Nat.{ℕ}
-use lib.Dec.{leb}
-use lib.IntN.{ℤ, natAbs}
+use lib.{Dec.leb, IntN.ℤ, IntN.natAbs}
 
 -- 01: "within ±n"
 abbrev pub within : ℤ → ℕ → Bool

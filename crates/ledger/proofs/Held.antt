@@ -20,7 +20,7 @@ use Rattle.day.proofs.Held.{HeldFinal, held-final, final-holds}
 use Rattle.columns.specs.Columns.{entry, countAt, allBelow, sumBelow}
 use Rattle.columns.specs.Limits.{mostPosition, mostVolume, mostPosting}
 use Rattle.columns.proofs.Columns.{all-at, all-by, sum-most}
-use Rattle.ledger.specs.Types.{Book}
+use Rattle.ledger.specs.declared.Book.{Book}
 use Rattle.ledger.specs.Refusals.{accountOf, withinLimits}
 
 pub record Account (b : Book) (j : ℕ) : Type 0 where

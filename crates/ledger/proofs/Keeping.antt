@@ -26,7 +26,9 @@ use Rattle.ledger.specs.Effects.{withFigures, effect}
 use Rattle.ledger.specs.Refusals.{refusal, withinLimits}
 use Rattle.ledger.specs.Step.{isAccepted, step, run, fresh, opening}
 use Rattle.ledger.specs.Keeping.{Shaped, FreshShaped, ShapeKept, FreshWithin, LimitsKept, RunWithin, NeverBeyond}
-use Rattle.ledger.specs.Types.{Call, Figures, Book}
+use Rattle.day.specs.declared.call.Call.{Call}
+use Rattle.figures.specs.declared.Figures.{Figures}
+use Rattle.ledger.specs.declared.Book.{Book}
 use Rattle.ledger.proofs.Held.{Held, held, holds}
 use Rattle.ledger.proofs.Passed.{Passed, passed, within-passes}
 use Rattle.ledger.proofs.KeepingTrade.{traded-account, traded-final}

@@ -18,7 +18,7 @@ use Rattle.columns.specs.Effects.{posting}
 use Rattle.columns.proofs.Columns.{table-at}
 use Rattle.columns.proofs.PostingSize.{posting-size}
 use Rattle.ledger.specs.Effects.{cashAfter, closedBook}
-use Rattle.ledger.specs.Types.{Book}
+use Rattle.ledger.specs.declared.Book.{Book}
 use Rattle.ledger.specs.Step.{fresh}
 use Rattle.ledger.proofs.Held.{Account, Held}
 

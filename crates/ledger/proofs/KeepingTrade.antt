@@ -27,7 +27,9 @@ use Rattle.columns.specs.Effects.{exchanged, counted}
 use Rattle.columns.proofs.Columns.{sum-raised}
 use Rattle.ledger.specs.Effects.{tradedBook}
 use Rattle.ledger.specs.Keeping.{Shaped}
-use Rattle.ledger.specs.Types.{Trade, Figures, Book}
+use Rattle.day.specs.declared.trade.Trade.{Trade}
+use Rattle.figures.specs.declared.Figures.{Figures}
+use Rattle.ledger.specs.declared.Book.{Book}
 use Rattle.ledger.proofs.Held.{Account, Held}
 use Rattle.ledger.proofs.Passed.{Passed}
 

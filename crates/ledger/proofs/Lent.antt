@@ -24,7 +24,9 @@ use Rattle.ledger.specs.Effects.{withFigures, effect}
 use Rattle.ledger.specs.Refusals.{sentencesOf, refusal}
 use Rattle.ledger.specs.Step.{step}
 use Rattle.ledger.specs.Inner.{bookOf, answerOf, answered, Tradable, WithinLimits}
-use Rattle.ledger.specs.Types.{Trade, Call, Figures, Outcome, Book}
+use Rattle.day.specs.declared.{trade.Trade.Trade, call.Call.Call}
+use Rattle.figures.specs.declared.{Figures.Figures, outcome.Outcome.Outcome}
+use Rattle.ledger.specs.declared.Book.{Book}
 use Rattle.ledger.proofs.Held.{Held, held, contracts-most}
 
 module _ (b : Book) (w : WithinLimits accounts b) where

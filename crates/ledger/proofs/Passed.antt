@@ -18,7 +18,9 @@ use Rattle.figures.proofs.Passed.{Passed as PassedFigures}
 use Rattle.figures.proofs.Passed.{passed as passed-figures}
 use Rattle.columns.specs.Limits.{accountsOf}
 use Rattle.ledger.specs.Refusals.{sentencesOf, refusal, withinLimits}
-use Rattle.ledger.specs.Types.{Trade, Call, Figures, Book}
+use Rattle.day.specs.declared.{trade.Trade.Trade, call.Call.Call}
+use Rattle.figures.specs.declared.Figures.{Figures}
+use Rattle.ledger.specs.declared.Book.{Book}
 
 pub record Passed (n : ℕ) (b : Book) (c : Call) : Type 0 where
   pub limits : withinLimits n b ≡ true

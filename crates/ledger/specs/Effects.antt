@@ -1,12 +1,10 @@
 -- What an accepted call does to a book: document 01, "A trade date, call by call".
 use Prim.Native.Nat.{ℕ, _*_}
-use lib.IntN.{ℤ, pos}
-use lib.ListN.{replicate}
-use Rattle.columns.specs.Columns.{table}
-use Rattle.day.specs.Calls.{onTrade, onClose}
-use Rattle.figures.specs.Effects.{figuresAfter}
-use Rattle.columns.specs.Effects.{counted, exchanged, posted}
-use Rattle.ledger.specs.Types.{Trade, Call, Figures, Book}
+use lib.{IntN.ℤ, IntN.pos, ListN.replicate}
+use Rattle.columns.specs.{Columns.table, Effects.counted, Effects.exchanged, Effects.posted}
+use Rattle.day.specs.{Calls.onTrade, Calls.onClose, declared.trade.Trade.Trade, declared.call.Call.Call}
+use Rattle.figures.specs.{Effects.figuresAfter, declared.Figures.Figures}
+use Rattle.ledger.specs.declared.Book.{Book}
 
 -- a book with other figures
 abbrev pub withFigures : Book → Figures → Book

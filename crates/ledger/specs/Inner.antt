@@ -1,20 +1,14 @@
 -- The inner layer, on the figures by value and the lent account columns: its answers, and what its functions require, which a book within its limits has.
 -- A reader of the promises can skip this file.
-use mathlib.Core.Path.{_≡_}
-use mathlib.Core.Bool.{true}
-use mathlib.Core.List.{List}
+use mathlib.Core.{Path._≡_, Bool.true, List.List}
 use Prim.Native.Nat.{ℕ, _+_, _*_, _<_, _^_}
 use lib.IntN.{ℤ}
 use Rattle.funding.specs.Price.{largestPrice}
 use Rattle.day.specs.declared.call.Call.the-variants as call
-use Rattle.day.specs.Day.{mostQuantity}
-use Rattle.figures.specs.Refusals.{firstMet}
-use Rattle.columns.specs.Limits.{mostPosition}
-use Rattle.columns.specs.Inner.{Countable, Exchangeable, mostEntry}
-use Rattle.ledger.specs.Refusals.{sentencesOf, withinLimits}
-use Rattle.ledger.specs.Step.{answerBy}
-use Rattle.ledger.specs.Keeping.{Shaped}
-use Rattle.ledger.specs.Types.{Trade, Call, Figures, Outcome, Book, Answer}
+use Rattle.day.specs.{Day.mostQuantity, declared.trade.Trade.Trade, declared.call.Call.Call}
+use Rattle.figures.specs.{Refusals.firstMet, declared.Figures.Figures, declared.outcome.Outcome.Outcome}
+use Rattle.columns.specs.{Limits.mostPosition, Inner.Countable, Inner.Exchangeable, Inner.mostEntry}
+use Rattle.ledger.specs.{Refusals.sentencesOf, Refusals.withinLimits, Step.answerBy, Keeping.Shaped, declared.Book.Book, declared.Answer.Answer}
 
 -- ---- answers
 

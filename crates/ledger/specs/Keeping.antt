@@ -1,15 +1,11 @@
 -- An accepted call on a book within its limits hands back a book within its limits, so that refusal 2 never comes on a book that the library handed out.
 -- Proved in proofs/Keeping.antt.
-use mathlib.Core.Path.{_≡_}
-use mathlib.Core.Bool.{true}
-use mathlib.Core.List.{List}
+use mathlib.Core.{Path._≡_, Bool.true, List.List}
 use Prim.Native.Nat.{ℕ}
 use lib.ListN.{length}
 use Rattle.figures.specs.Figures.{isSize}
-use Rattle.ledger.specs.Effects.{effect}
-use Rattle.ledger.specs.Refusals.{refusal, withinLimits}
-use Rattle.ledger.specs.Step.{fresh, opening, run}
-use Rattle.ledger.specs.Types.{Call, Book}
+use Rattle.day.specs.declared.call.Call.{Call}
+use Rattle.ledger.specs.{declared.Book.Book, Effects.effect, Refusals.refusal, Refusals.withinLimits, Step.fresh, Step.opening, Step.run}
 
 -- each column has an entry for each of n accounts
 pub record Shaped (n : ℕ) (b : Book) : Type 0 where

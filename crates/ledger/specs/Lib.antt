@@ -1,4 +1,3 @@
-pub mod Types
 pub mod Effects
 pub mod Refusals
 pub mod Step

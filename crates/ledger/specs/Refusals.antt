@@ -1,16 +1,12 @@
 -- Refusal 2, the limits on what a book holds, and the number of any call's refusal.
-use mathlib.Core.Bool.{Bool, not, _&&_}
-use mathlib.Core.List.{List, _∷_}
+use mathlib.Core.{Bool.Bool, Bool.not, Bool._&&_, List.List, List._∷_}
 use Prim.Native.Nat.{ℕ}
 use lib.IntN.{ℤ}
 use Rattle.day.specs.declared.call.Call.the-variants as call
-use Rattle.day.specs.Calls.{onTrade}
-use Rattle.day.specs.Limits.{finalHolds}
-use Rattle.figures.specs.Refusals.{noAccounts, sentences, firstMet}
-use Rattle.figures.specs.Figures.{figuresHold}
-use Rattle.columns.specs.Columns.{countAt, allBelow, sumBelow}
-use Rattle.columns.specs.Limits.{accountAt, accountsOf}
-use Rattle.ledger.specs.Types.{Trade, Call, Figures, Book}
+use Rattle.day.specs.{Calls.onTrade, Limits.finalHolds, declared.trade.Trade.Trade, declared.call.Call.Call}
+use Rattle.figures.specs.{Refusals.noAccounts, Refusals.sentences, Refusals.firstMet, Figures.figuresHold, declared.Figures.Figures}
+use Rattle.columns.specs.{Columns.countAt, Columns.allBelow, Columns.sumBelow, Limits.accountAt, Limits.accountsOf}
+use Rattle.ledger.specs.declared.Book.{Book}
 
 -- ---- the limits
 

@@ -1,31 +1,19 @@
 -- The opening, a call, a list of calls and the report, on a book of n accounts.
-use mathlib.Core.Bool.{Bool, cond, not, _||_}
-use mathlib.Core.List.{List, [], _∷_}
+use mathlib.Core.{Bool.Bool, Bool.cond, Bool.not, Bool._||_, List.List, List.[], List._∷_}
 use Prim.Native.Nat.{ℕ}
-use lib.Dec.{eqb}
-use lib.IntN.{pos, ℤ}
-use lib.ListN.{replicate}
+use lib.{Dec.eqb, IntN.pos, IntN.ℤ, ListN.replicate}
 use Rattle.integers.specs.Lists.{keepIf}
-use Rattle.figures.specs.Effects.{noFixing, fixingOf}
-use Rattle.figures.specs.Refusals.{firstMet}
-use Rattle.figures.specs.Figures.{freshFigures}
-use Rattle.figures.specs.Outcome.{opened}
-use Rattle.ledger.specs.Effects.{effect}
-use Rattle.ledger.specs.Refusals.{refusal, withinLimits}
-use Rattle.ledger.specs.Types.{Call, Figures, Book, Answer}
+use Rattle.figures.specs.{Effects.noFixing, Effects.fixingOf, Refusals.firstMet, Figures.freshFigures, Outcome.opened, declared.Figures.Figures}
+use Rattle.day.specs.declared.call.Call.{Call}
+use Rattle.ledger.specs.{declared.Book.Book, declared.Answer.Answer, Effects.effect, Refusals.refusal, Refusals.withinLimits}
 
 -- ---- the opening
 
 -- a book of n accounts with these figures, and zeros in every column
 abbrev pub emptyBook : ℕ → Figures → Book
-emptyBook n f = record {
-  figures = f;
-  opening = replicate n (pos 0);
-  position = replicate n (pos 0);
-  cost = replicate n (pos 0);
-  volume = replicate n 0;
-  cash = replicate n (pos 0);
-}
+emptyBook n f =
+    let zeros = replicate n (pos 0) in
+    record { figures = f; opening = zeros; position = zeros; cost = zeros; volume = replicate n 0; cash = zeros }
 
 -- 01: "a fresh book holds that size, zeros, and no halt", here over n accounts
 abbrev pub fresh : ℕ → ℕ → Book

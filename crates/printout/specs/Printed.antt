@@ -1,19 +1,14 @@
 -- What `funding-bench` prints for each record of a file.
 use mathlib.Core.Bool.{Bool, not, cond, _||_}
 use Prim.Native.Nat.{ℕ, _+_}
-use lib.Dec.{eqb}
-use lib.IntN.{ℤ, natAbs}
-use Rattle.day.specs.declared.call.Call.{Call}
-use Rattle.day.specs.Calls.{onFix, onClose}
+use lib.{Dec.eqb, IntN.ℤ, IntN.natAbs}
+use Rattle.day.specs.{declared.call.Call.Call, Calls.onFix, Calls.onClose}
 use Rattle.columns.specs.Columns.{accounts}
-use Rattle.ledger.specs.declared.Book.{Book}
-use Rattle.ledger.specs.declared.Answer.{Answer}
-use Rattle.ledger.specs.Step.{step}
+use Rattle.ledger.specs.{declared.Book.Book, declared.Answer.Answer, Step.step}
 use Rattle.dayfile.specs.declared.Read.{Read}
 use Rattle.dayfile.specs.declared.Read.the-variants as read
-use Rattle.printout.specs.declared.Printed.{Printed}
+use Rattle.printout.specs.declared.{Printed.Printed, Played.Played}
 use Rattle.printout.specs.declared.Printed.the-variants as printed
-use Rattle.printout.specs.declared.Played.{Played}
 
 -- 01: "A refused size prints `refused 5 record 0`"
 abbrev pub printedOpening : Answer → Printed

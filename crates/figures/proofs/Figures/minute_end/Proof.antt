@@ -13,7 +13,7 @@ use Rattle.funding.specs.Price.{isPresent, noneOrPrice}
 use Rattle.day.specs.Day.{dayLength, twoSided, isFixed, isValid}
 use Rattle.figures.specs.Figures.{termsOn}
 use Rattle.figures.specs.Refusals.{isFull, dayForbids, noAccounts}
-use Rattle.figures.specs.Types.{Figures}
+use Rattle.figures.specs.declared.Figures.{Figures}
 use Rattle.figures.specs.Effects.{figuresAfter, fixingOf}
 use Rattle.day.specs.declared.call.Call.the-variants as call
 use Rattle.figures.proofs.Outcomes.{refused-is, accepted-is}

@@ -14,7 +14,7 @@ use Rattle.ledger.proofs.Held.{held-account}
 use Rattle.integers.proofs.Tests.{each}
 use Rattle.columns.specs.Columns.{accounts, allBelow}
 use Rattle.columns.proofs.Columns.{all-at}
-use Rattle.ledger.specs.Types.{Book}
+use Rattle.ledger.specs.declared.Book.{Book}
 use Rattle.ledger.specs.Refusals.{accountOf, withinLimits}
 use Rattle.ledger.proofs.limits.limits_hold.Statement.{statement}
 use Rattle.ledger.proofs.limits.limits_hold.Tie as tie

@@ -9,7 +9,7 @@ use Rattle.ledger.specs.Step.{step}
 use Rattle.day.specs.declared.call.Call.the-variants as call
 use Rattle.figures.proofs.Held.{figures-hold}
 use Rattle.columns.specs.Columns.{accounts}
-use Rattle.ledger.specs.Types.{Book}
+use Rattle.ledger.specs.declared.Book.{Book}
 use Rattle.ledger.proofs.Held.{held}
 use Rattle.ledger.proofs.Lent.{tradable, fixable, closable, step-within, on-figures}
 use Rattle.ledger.proofs.step.step_on.Statement.{statement}

@@ -7,7 +7,7 @@ use Rattle.columns.specs.Columns.{accounts}
 use Rattle.ledger.specs.Refusals.{refusal, withinLimits}
 use Rattle.ledger.specs.Step.{step}
 use Rattle.ledger.specs.Inner.{bookOf}
-use Rattle.ledger.specs.Types.{Book}
+use Rattle.ledger.specs.declared.Book.{Book}
 use Rattle.ledger.proofs.step.tested_step.Statement.{statement}
 use Rattle.ledger.proofs.step.tested_step.Tie as tie
 

@@ -5,7 +5,7 @@ use lib.Dec.{ltb, eqb}
 use borrow.Author.Tests.{ne-eqb, not-true, not-false}
 use borrow.Author.Needs.{needs}
 use Rattle.funding.specs.Price.{isPrice, isTicked}
-use Rattle.day.specs.Types.{Trade}
+use Rattle.day.specs.declared.trade.Trade.{Trade}
 use Rattle.day.specs.Day.{simple, block, mostQuantity, leastBlock, tradeOutside}
 use Rattle.day.proofs.trade.Trade.is_outside.Statement.{statement}
 use Rattle.day.proofs.trade.Trade.is_outside.Tie as tie
