@@ -1,5 +1,4 @@
 -- What the functions of this crate require, which figures within their limits have. A reader of the promises can skip this file.
-use mathlib.Core.Bool.{Bool}
 use Prim.Native.Nat.{_*_, _≤_}
 use Rattle.funding.specs.Price.{largestPrice}
 use Rattle.day.specs.declared.Day.{Day}
@@ -11,5 +10,5 @@ pub record Fixable (f : Figures) : Type 0 where
   pub size : f .size ≤ tenth
 
 -- no refusal, with what a fix found
-abbrev pub changed : Figures → Bool → Day → Fixing → Outcome
-changed f halted d x = record { code = 0; fixing = x; figures = withDay f halted d }
+abbrev pub changed : Figures → Day → Fixing → Outcome
+changed f d x = record { code = 0; fixing = x; figures = withDay f (f .halted) d }

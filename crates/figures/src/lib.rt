@@ -88,16 +88,15 @@ impl Figures {
         0
     }
 
-    // No refusal, with what a fix found, and the figures with another halt and another day.
-    fn changed(mut self, halted: bool, day: Day, fixing: Fixing) -> Outcome
-        ensures { λ r. ⌜ r ≡ changed self halted day fixing ⌝ }
+    // No refusal, with what a fix found, and the figures with another day.
+    fn changed(mut self, day: Day, fixing: Fixing) -> Outcome
+        ensures { λ r. ⌜ r ≡ changed self day fixing ⌝ }
     {
-        self.halted = halted;
         self.day = day;
         Outcome {
-            code: 0,
-            fixing,
             figures: self,
+            fixing,
+            code: 0,
         }
     }
 
@@ -108,7 +107,7 @@ impl Figures {
         if code != 0 {
             return Outcome::numbered(self, code);
         }
-        self.changed(self.halted, self.day.quoted(market), Fixing::none())
+        self.changed(self.day.quoted(market), Fixing::none())
     }
 
     // The number of a trade's refusal where its accounts give none, 0 for none.
@@ -132,7 +131,7 @@ impl Figures {
         requires { ⌜ RoomForTrade (self .day .trades .settling) t ⌝ }
         ensures { λ r. ⌜ r ≡ numbered (figuresAfter self (Call.Trade t)) 0 ⌝ }
     {
-        self.changed(self.halted, self.day.traded(t), Fixing::none())
+        self.changed(self.day.traded(t), Fixing::none())
     }
 
     // The number of a halt's or a resumption's refusal, 0 for none. The halt forbids the one, and that there is none the other.
@@ -155,7 +154,9 @@ impl Figures {
         if code != 0 {
             return Outcome::numbered(self, code);
         }
-        self.changed(true, self.day.without_markets(), Fixing::none())
+        let mut after = self;
+        after.halted = true;
+        after.changed(self.day.without_markets(), Fixing::none())
     }
 
     pub fn resume(self) -> Outcome
@@ -165,7 +166,9 @@ impl Figures {
         if code != 0 {
             return Outcome::numbered(self, code);
         }
-        self.changed(false, self.day, Fixing::none())
+        let mut after = self;
+        after.halted = false;
+        after.changed(self.day, Fixing::none())
     }
 
     // The number of a minute end's refusal, 0 for none.
@@ -194,11 +197,7 @@ impl Figures {
             .markets
             .minute
             .is_valid(self.halted, index, self.terms());
-        self.changed(
-            self.halted,
-            self.day.minute_ended(valid, index),
-            Fixing::none(),
-        )
+        self.changed(self.day.minute_ended(valid, index), Fixing::none())
     }
 
     // What a fix with this set price finds. A gross and a size within their limits are required, so that the figures fit.
@@ -245,11 +244,7 @@ impl Figures {
         if code != 0 {
             return Outcome::numbered(self, code);
         }
-        self.changed(
-            self.halted,
-            self.day.fixed(fixing.price, fixing.amount),
-            fixing,
-        )
+        self.changed(self.day.fixed(fixing.price, fixing.amount), fixing)
     }
 
     // The number of a close's refusal, 0 for none.

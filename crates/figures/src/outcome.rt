@@ -14,11 +14,12 @@ pub struct Fixing {
     pub valid: u32,
 }
 
-// The refusal's number and the same figures, or 0 and the new ones.
+// The refusal's number and the same figures, or 0 and the new ones. The order of the fields is the one with which a run is
+// fastest (`make speed`).
 pub struct Outcome {
-    pub code: u8,
-    pub fixing: Fixing,
     pub figures: Figures,
+    pub fixing: Fixing,
+    pub code: u8,
 }
 
 impl Fixing {
@@ -39,9 +40,9 @@ impl Outcome {
         ensures { λ r. ⌜ r ≡ Outcome·numbered figures code ⌝ }
     {
         Self {
-            code,
-            fixing: Fixing::none(),
             figures,
+            fixing: Fixing::none(),
+            code,
         }
     }
 }

@@ -6,19 +6,20 @@ use native.Mathlib.Omega.{arith}
 use lib.IntN.{pos, natAbs}
 use borrow.Author.Needs.{needs}
 use Rattle.integers.proofs.Overflow.{Op, arg, lit, add, mul, val, nat, Within, _▹_, done, safe, runs}
+use Rattle.funding.specs.Minute.{mostBasis, weightedLimit, mostMinutes}
 use Rattle.funding.proofs.accrue.Statement.{statement}
 use Rattle.funding.proofs.accrue.Tie as tie
 
 module _ (s : tie.Start) where
-  count-small : s .args .count ≤ 1319
+  count-small : s .args .count ≤ mostMinutes
   count-small = omega (arith, s .pre .count)
 
-  sum-small : natAbs (s .args .sum) ≤ 8_704_529_460_000_000_000
+  sum-small : natAbs (s .args .sum) ≤ weightedLimit mostMinutes
   sum-small =
       let k = s .args .count in
-      omega (arith, s .pre .sum, count-small, mul-le-mul-left k count-small, mul-le-mul-right 1319 count-small)
+      omega (arith, s .pre .sum, count-small, mul-le-mul-left k count-small, mul-le-mul-right mostMinutes count-small)
 
-  within : Within (val (s .args .sum) ∷ nat (s .args .count) ∷ val (s .args .basis) ∷ []) (8_704_529_460_000_000_000 ∷ 1319 ∷ 9_999_000_000_000 ∷ [])
+  within : Within (val (s .args .sum) ∷ nat (s .args .count) ∷ val (s .args .basis) ∷ []) (weightedLimit mostMinutes ∷ mostMinutes ∷ mostBasis ∷ [])
   within = sum-small ▹ count-small ▹ s .pre .size ▹ done
 
 abbrev weight : Op

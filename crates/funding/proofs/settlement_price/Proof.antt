@@ -13,6 +13,7 @@ use Rattle.integers.specs.declared.Tie.the-variants.{Even}
 use Rattle.integers.specs.Rounding.{nearest, halfEven}
 use Rattle.integers.proofs.Machine.{positive}
 use Rattle.integers.proofs.Rounding.{nearest-le}
+use Rattle.funding.specs.Price.{largestPrice}
 use Rattle.funding.proofs.settlement_price.Statement.{statement}
 use Rattle.funding.proofs.settlement_price.Tie as tie
 
@@ -48,7 +49,7 @@ cast-result : tie.Need-cast-result
 cast-result c =
     let s = c .before .before .before .before .before .before in
     let t = s .args .traded in
-    rw (average-is c) (tt, record { fits = omega (arith, nearest-le Even (t .gross) (t .contracts) 50_000_000 (some (c .before)) (s .pre)) })
+    rw (average-is c) (tt, record { fits = omega (arith, nearest-le Even (t .gross) (t .contracts) largestPrice (some (c .before)) (s .pre)) })
 
 returns-2 : tie.Need-returns-2
 returns-2 c =

@@ -1,14 +1,15 @@
 -- `funding_bench::lines::accounts` is safe and ends. Assumes nothing.
 use Prim.Native.Nat.{_-_, _≤_}
 use borrow.Author.Needs.{needs}
+use Rattle.columns.specs.Columns.{accounts}
 use Rattle.funding_bench.proofs.lines.accounts.Statement.{statement}
 use Rattle.funding_bench.proofs.lines.accounts.Tie as tie
 
 abbrev Inv-loop : tie.InvT-loop
-Inv-loop book i₀ i = i ≤ 256
+Inv-loop book i₀ i = i ≤ accounts
 
 abbrev μ-loop : tie.MeasureT-loop
-μ-loop book i₀ i = 256 - i
+μ-loop book i₀ i = accounts - i
 
 loop-holds : tie.Need-loop-holds Inv-loop μ-loop
 loop-holds c = search needs

@@ -15,9 +15,9 @@ met : (k a b r s t : Bool) → a || b ≡ true → k || a || b || r || s || t �
 met true a b r s t h = refl
 met false a b r s t h = rw h
 
-unmet : (k a b r : Bool) → a || b ≡ false → k || a || b || r || false || false ≡ k || r
-unmet true a b r h = refl
-unmet false a b r h = rw (h, or-false, or-false)
+left-over : (k a b r : Bool) → a || b ≡ false → k || a || b || r || false || false ≡ k || r
+left-over true a b r h = refl
+left-over false a b r h = rw (h, or-false, or-false)
 
 -- a trade with a quantity and a price in their fields: what is left for a simple one, and for any other
 module _ (t : Trade) (q : eqb (t .quantity) 0 || ltb mostQuantity (t .quantity) ≡ false) (p : isPrice (t .price) ≡ true) where
@@ -25,7 +25,7 @@ module _ (t : Trade) (q : eqb (t .quantity) 0 || ltb mostQuantity (t .quantity) 
   of-simple e = rw (e, q, p)
 
   of-other : eqb (t .kind) simple ≡ false → tradeOutside t ≡ ltb block (t .kind) || (eqb (t .kind) block && ltb (t .quantity) leastBlock)
-  of-other e = rw (p, e) (unmet (ltb block (t .kind)) (eqb (t .quantity) 0) (ltb mostQuantity (t .quantity)) (eqb (t .kind) block && ltb (t .quantity) leastBlock) q)
+  of-other e = rw (p, e) (left-over (ltb block (t .kind)) (eqb (t .quantity) 0) (ltb mostQuantity (t .quantity)) (eqb (t .kind) block && ltb (t .quantity) leastBlock) q)
 
 abbrev trade : tie.Else1 → Trade
 trade c = c .before .before .before .args .self
