@@ -4,21 +4,23 @@
 --     whole       a complete record
 --     right-length, wrong-length     a complete record of a known tag
 --     record-at, known-at     a record at a place is complete, and is read as its call
+--     number-at   the number of what is read is that of the bytes
 -- Assumes nothing.
-use Prim.Native.Nat.{ℕ, _+_, _≤_, _<_}
+use Prim.Native.Nat.{ℕ, zero, suc, _+_, _≤_, _<_}
 use mathlib.Core.Path.{_≡_, refl, _∙_, ap}
-use mathlib.Core.Bool.{true, _&&_}
-use mathlib.Core.List.{List}
+use mathlib.Core.Bool.{Bool, true, false, not, cond, _&&_}
+use mathlib.Core.List.{List, [], _∷_}
 use native.Mathlib.Omega.{arith}
 use borrow.Author.Tests.{leb-true, eqb-true, le-leb, lt-leb, lt-ltb, le-ltb, eq-eqb, ne-eqb}
-use lib.Dec.{leb, eqb}
+use lib.Dec.{leb, ltb, eqb}
 use lib.ListN.{length}
-use Rattle.integers.proofs.Tests.{both-true}
+use Rattle.integers.proofs.Tests.{tests, both-true}
 use Rattle.dayfile.specs.declared.Tag.{Tag}
 use Rattle.dayfile.specs.declared.Tag.the-variants as tag
+use Rattle.dayfile.specs.declared.Tagged.{Tagged}
 use Rattle.dayfile.specs.declared.Tagged.the-variants as tagged
 use Rattle.dayfile.specs.declared.Read.the-variants as read
-use Rattle.dayfile.specs.Record.{byteAt, tagOf, byteOf, isRecordAt, bodyLength, callOf, bodyAt, statedLength, nextAt, complete, readAt}
+use Rattle.dayfile.specs.Record.{byteAt, tagOf, byteOf, isRecordAt, bodyLength, callOf, bodyAt, statedLength, nextAt, complete, readAt, readNumber, isWrongLength, recordRefusal}
 
 module _ (file : List ℕ) (at : ℕ) where
   pub at-end : length file ≤ at → readAt file at ≡ read.End
@@ -53,8 +55,8 @@ module _ (file : List ℕ) (at : ℕ) where
   byte-read tag.Close = refl
 
   -- the three tests of a record at a place
-  tests : (t : Tag) → isRecordAt file at t ≡ true → (bodyAt at + bodyLength t ≤ length file) × (byteAt file at ≡ byteOf t) × (statedLength file at ≡ bodyLength t)
-  tests t h =
+  record-tests : (t : Tag) → isRecordAt file at t ≡ true → (bodyAt at + bodyLength t ≤ length file) × (byteAt file at ≡ byteOf t) × (statedLength file at ≡ bodyLength t)
+  record-tests t h =
       let fits = leb (bodyAt at + bodyLength t) (length file) in
       let byte = eqb (byteAt file at) (byteOf t) in
       let stated = eqb (statedLength file at) (bodyLength t) in
@@ -63,11 +65,38 @@ module _ (file : List ℕ) (at : ℕ) where
       (leb-true (bodyAt at + bodyLength t) (length file) (j .0), eqb-true (byteAt file at) (byteOf t) (j .1), eqb-true (statedLength file at) (bodyLength t) (k .1))
 
   pub record-at : (t : Tag) → isRecordAt file at t ≡ true → bodyAt at + bodyLength t ≤ length file
-  record-at t h = tests t h .0
+  record-at t h = record-tests t h .0
 
   pub known-at : (t : Tag) → isRecordAt file at t ≡ true → readAt file at ≡ read.Known (bodyAt at + bodyLength t) (callOf file t (bodyAt at))
   known-at t h =
-      let k = tests t h in
+      let k = record-tests t h in
       let stated = k .2 in
       whole (omega (arith, k .0, stated)) ∙ right-length t (ap tagOf (k .1) ∙ byte-read t) stated
       ∙ ap (λ n. read.Known (bodyAt at + n) (callOf file t (bodyAt at))) stated
+
+-- ---- refusal 1
+
+-- past the file's end stands no known tag
+past-end : (file : List ℕ) (at : ℕ) → length file ≤ at → byteAt file at ≡ 0
+past-end [] at h = refl
+past-end (x ∷ file) zero h = absurd (omega arith)
+past-end (x ∷ file) (suc at) h = past-end file at (omega arith)
+
+completed : (file : List ℕ) (at : ℕ) (t : Tagged) → readNumber (complete file at t) ≡ cond (isWrongLength t (statedLength file at)) 1 0
+completed file at tagged.Unknown = refl
+completed file at (tagged.Known t) = by (eqb (statedLength file at) (bodyLength t))
+  where
+    by : (right : Bool)
+        → readNumber (cond right (read.Known (nextAt file at) (callOf file t (bodyAt at))) (read.WrongLength (nextAt file at))) ≡ cond (not right) 1 0
+    by true = refl
+    by false = refl
+
+pub number-at : (file : List ℕ) (at : ℕ) → readNumber (readAt file at) ≡ recordRefusal file at
+unfolding readAt tagOf
+number-at file at = by (leb (length file) at) refl (ltb (length file) (nextAt file at)) refl
+  where
+    by : (ended : Bool) → leb (length file) at ≡ ended → (past : Bool) → ltb (length file) (nextAt file at) ≡ past
+        → readNumber (readAt file at) ≡ recordRefusal file at
+    by true e past f = rw (e, past-end file at (omega tests), le-ltb at (length file) (omega tests))
+    by false e true f = rw (e, f, lt-ltb at (length file) (omega tests))
+    by false e false f = rw (e, f, lt-ltb at (length file) (omega tests)) (completed file at (tagOf (byteAt file at)))

@@ -1,6 +1,6 @@
 -- What stands at a place of a day file: the format of document 01, sentence by sentence.
 use Prim.Native.Nat.{ℕ, _+_, _*_, _≤_}
-use mathlib.Core.{List.List, Bool.Bool, Bool.cond, Bool._&&_}
+use mathlib.Core.{List.List, Bool.Bool, Bool.false, Bool.not, Bool.cond, Bool._&&_, Bool._||_}
 use lib.{ListN.length, ListN.getD, Dec.ltb, Dec.leb, Dec.eqb}
 use Rattle.day.specs.declared.{market.Market.Market, trade.Trade.Trade, call.Call.Call}
 use Rattle.day.specs.declared.call.Call.the-variants as call
@@ -100,6 +100,27 @@ readAt file at =
     cond (leb (length file) at) read.End
     (cond (ltb (length file) (nextAt file at)) read.CutOff
     (complete file at (tagOf (byteAt file at))))
+
+-- the number of what was read: document 01's refusal 1, or 0
+abbrev pub readNumber : Read → ℕ
+readNumber read.End = 0
+readNumber read.CutOff = 1
+readNumber (read.Known next c) = 0
+readNumber (read.WrongLength next) = 1
+readNumber (read.Unknown next) = 0
+
+-- 1: "A file record is cut off by the end of the file"
+abbrev pub isCutOff : List ℕ → ℕ → Bool
+isCutOff file at = ltb at (length file) && ltb (length file) (nextAt file at)
+
+-- 1: "or a known tag has a wrong length"
+abbrev pub isWrongLength : Tagged → ℕ → Bool
+isWrongLength tagged.Unknown stated = false
+isWrongLength (tagged.Known t) stated = not (eqb stated (bodyLength t))
+
+-- the number of the record at a place, by the bytes there
+abbrev pub recordRefusal : List ℕ → ℕ → ℕ
+recordRefusal file at = cond (isCutOff file at || isWrongLength (tagOf (byteAt file at)) (statedLength file at)) 1 0
 
 -- whether a complete record of this tag and of its length stands at a place: `readAt` then gives its call (proved in proofs/Reading.antt)
 abbrev pub isRecordAt : List ℕ → ℕ → Tag → Bool

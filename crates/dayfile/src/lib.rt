@@ -3,7 +3,7 @@ ghost use mathlib.Core.Path.{_≡_};
 ghost use Prim.Native.Nat.{_+_, _≤_, _<_};
 ghost use lib.ListN.{length};
 ghost use Rattle.dayfile.specs.Record.{byteAt, twoBytes, fourBytes, tagOf, bodyLength, tradeAt, quoteAt, callOf};
-ghost use Rattle.dayfile.specs.Record.{statedLength, complete, readAt, byteOf, isRecordAt};
+ghost use Rattle.dayfile.specs.Record.{statedLength, complete, readAt, byteOf, isRecordAt, readNumber, recordRefusal};
 use day::call::Call;
 use day::market::Market;
 use day::trade::Trade;
@@ -35,6 +35,21 @@ pub enum Read {
     Known(usize, Call),
     WrongLength(usize),
     Unknown(usize),
+}
+
+impl Read {
+    // Refusal 1, or 0.
+    pub fn number(self) -> u8
+        ensures { λ r. ⌜ r ≡ readNumber self ⌝ }
+    {
+        match self {
+            Read::End => 0,
+            Read::CutOff => 1,
+            Read::Known(_, _) => 0,
+            Read::WrongLength(_) => 1,
+            Read::Unknown(_) => 0,
+        }
+    }
 }
 
 fn two_bytes(file: &[u8], at: usize) -> usize
@@ -176,7 +191,8 @@ fn complete_record(file: &[u8], at: usize, stated: usize) -> Read
 
 // What stands at a place of a file, whatever its bytes and wherever the place.
 pub fn read_record(file: &[u8], at: usize) -> Read
-    ensures { λ r. ⌜ r ≡ readAt (now (file .entry)) at ⌝ }
+    ensures record { λ r. ⌜ r ≡ readAt (now (file .entry)) at ⌝ }
+    ensures number { λ r. ⌜ readNumber r ≡ recordRefusal (now (file .entry)) at ⌝ }
 {
     if file.len() <= at {
         return Read::End;

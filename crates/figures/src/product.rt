@@ -2,7 +2,7 @@
 ghost use mathlib.Core.Path.{_≡_};
 ghost use Rattle.funding.specs.Terms.{standardTerms};
 ghost use Rattle.figures.specs.Figures.{hundredth, tenth, isSize, freshFigures};
-ghost use Rattle.figures.specs.Outcome.{opened};
+ghost use Rattle.figures.specs.Outcome.{numbered, opened};
 use crate::Figures;
 use crate::outcome::Outcome;
 use day::Day;
@@ -72,13 +72,23 @@ impl Product {
         }
     }
 
-    // The opening: fresh figures of this size, or refusal 5 with empty figures of size 0.
+    // An accepted opening of this product.
+    fn accepted_opening(self) -> Outcome
+        ensures { λ r. ⌜ r ≡ numbered (freshFigures (self .size)) 0 ⌝ }
+    {
+        Outcome::numbered(Product::fresh_figures(self.size), 0)
+    }
+
+    // The opening: fresh figures of the product of this size, or refusal 5 with empty figures of size 0.
     pub fn opening(size: u32) -> Outcome
         ensures { λ r. ⌜ r ≡ opened size ⌝ }
     {
-        if !Product::is_size(size) {
-            return Outcome::numbered(Product::fresh_figures(0), 5);
+        if size == Product::HUNDREDTH {
+            return Product::hundredth().accepted_opening();
         }
-        Outcome::numbered(Product::fresh_figures(size), 0)
+        if size == Product::TENTH {
+            return Product::tenth().accepted_opening();
+        }
+        Outcome::numbered(Product::fresh_figures(0), 5)
     }
 }

@@ -2,3 +2,4 @@ pub mod Table
 pub mod Prices
 pub mod Spread
 pub mod Bounds
+pub mod PriceRules

@@ -3,3 +3,4 @@ pub mod Terms
 pub mod Minute
 pub mod Fixing
 pub mod Table
+pub mod PriceRules

@@ -45,4 +45,6 @@ settled size file e =
       paid = d .cash;
       positions-cancel = d .positions-cancel;
       cash-cancels = d .cash-cancels;
+      calls-of-days = d .calls-of-days;
+      closed-days = d .closed-days;
     }

@@ -3,6 +3,7 @@
 --     step-kept                       the answer to a call, accepted or refused
 --     fresh-within, fresh-shaped      a fresh book
 --     run-within, never-beyond        a list of calls on an accepted opening
+--     refused-beyond                  a refused opening
 -- Assumes nothing.
 use mathlib.Core.Path.{_≡_, refl}
 use mathlib.Core.Bool.{Bool, true, false, cond}
@@ -14,7 +15,7 @@ use borrow.Author.Tests.{eqb-true}
 use Rattle.integers.proofs.Tests.{by-test}
 use Rattle.day.specs.declared.call.Call.the-variants as call
 use Rattle.figures.specs.Effects.{figuresAfter}
-use Rattle.figures.specs.Figures.{isSize}
+use Rattle.figures.specs.Figures.{isSize, figuresHold}
 use Rattle.day.specs.Calls.{onTrade}
 use Rattle.figures.specs.Refusals.{noAccounts}
 use Rattle.figures.proofs.Held.{HeldFigures}
@@ -25,7 +26,7 @@ use Rattle.columns.proofs.Columns.{table-length}
 use Rattle.ledger.specs.Effects.{withFigures, effect}
 use Rattle.ledger.specs.Refusals.{refusal, withinLimits}
 use Rattle.ledger.specs.Step.{isAccepted, step, run, fresh, opening}
-use Rattle.ledger.specs.Keeping.{Shaped, FreshShaped, ShapeKept, FreshWithin, LimitsKept, RunWithin, NeverBeyond}
+use Rattle.ledger.specs.Keeping.{Shaped, FreshShaped, ShapeKept, FreshWithin, LimitsKept, RunWithin, NeverBeyond, RefusedBeyond}
 use Rattle.day.specs.declared.call.Call.{Call}
 use Rattle.figures.specs.declared.Figures.{Figures}
 use Rattle.ledger.specs.declared.Book.{Book}
@@ -102,3 +103,17 @@ run-within n s cs h = rw (no-refusal (isSize s) h) (run-kept n (fresh n s) cs (f
 
 pub never-beyond : NeverBeyond
 never-beyond n s cs c h = within-passes n (run n (opening n s .book) cs) c (run-within n s cs h)
+
+-- ---- a refused opening
+
+size-zero : (t : Bool) (s : ℕ) → (_≡_ {A = ℕ} (cond t 0 5) 0 → ⊥) → cond t s 0 ≡ 0
+size-zero true s h = absurd (h refl)
+size-zero false s h = refl
+
+beyond : (n s : ℕ) → (opening n s .code ≡ 0 → ⊥) → withinLimits n (opening n s .book) ≡ false
+unfolding withinLimits figuresHold
+beyond n s h = rw (size-zero (isSize s) s h)
+
+pub refused-beyond : RefusedBeyond
+unfolding refusal
+refused-beyond n s h = record { calls = λ c. rw (beyond n s h); reports = λ positions cash. rw (beyond n s h) }

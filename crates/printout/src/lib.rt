@@ -1,7 +1,7 @@
 // What the bench prints, as a value for each record: the program is left with writing its digits.
 ghost use mathlib.Core.Path.{_≡_};
 ghost use Rattle.ledger.specs.Step.{step};
-ghost use Rattle.printout.specs.Printed.{printedOpening, printedBy, played, playedRecord, isPrinted};
+ghost use Rattle.printout.specs.Printed.{printedNumber, printedOpening, printedBy, played, notPlayed, playedRecord, isPrinted};
 use day::call::Call;
 use dayfile::Read;
 use figures::outcome::Fixing;
@@ -25,23 +25,28 @@ pub struct Played {
     pub book: Book,
 }
 
+// A refusal's line, or nothing without one.
+fn printed_number(number: u8, place: u64) -> Printed
+    ensures { λ r. ⌜ r ≡ printedNumber number place Printed.Nothing ⌝ }
+{
+    if number != 0 {
+        return Printed::Refused { number, place };
+    }
+    Printed::Nothing
+}
+
 // What the opening prints.
 pub fn printed_opening(opened: Answer) -> Printed
     ensures { λ r. ⌜ r ≡ printedOpening opened ⌝ }
 {
-    let number = opened.code;
-    if number != 0 {
-        return Printed::Refused { number, place: 0 };
-    }
-    Printed::Nothing
+    printed_number(opened.code, 0)
 }
 
 fn printed_by(answer: Answer, call: Call, place: u64) -> Printed
     ensures { λ r. ⌜ r ≡ printedBy answer call place ⌝ }
 {
-    let number = answer.code;
-    if number != 0 {
-        return Printed::Refused { number, place };
+    if answer.code != 0 {
+        return printed_number(answer.code, place);
     }
     let fixing = answer.fixing;
     let day = answer.book.figures.closed as u64 + 1;
@@ -69,28 +74,26 @@ fn play(book: Book, call: Call, place: u64) -> Played
     }
 }
 
-// What was read at a place of the file. A record that isn't a call leaves the book as it is.
+// A record that makes no call leaves the book as it is.
+fn not_played(book: Book, read: Read, place: u64) -> Played
+    ensures { λ r. ⌜ r ≡ notPlayed book read place ⌝ }
+{
+    Played {
+        printed: printed_number(read.number(), place),
+        book,
+    }
+}
+
+// What was read at a place of the file.
 pub fn play_record(book: Book, read: Read, place: u64) -> Played
     ensures { λ r. ⌜ r ≡ playedRecord book read place ⌝ }
 {
     match read {
-        Read::End => Played {
-            printed: Printed::Nothing,
-            book,
-        },
-        Read::CutOff => Played {
-            printed: Printed::Refused { number: 1, place },
-            book,
-        },
+        Read::End => not_played(book, read, place),
+        Read::CutOff => not_played(book, read, place),
         Read::Known(_, call) => play(book, call, place),
-        Read::WrongLength(_) => Played {
-            printed: Printed::Refused { number: 1, place },
-            book,
-        },
-        Read::Unknown(_) => Played {
-            printed: Printed::Nothing,
-            book,
-        },
+        Read::WrongLength(_) => not_played(book, read, place),
+        Read::Unknown(_) => not_played(book, read, place),
     }
 }
 

@@ -50,14 +50,14 @@ loop-less c =
     let r = c .before .before .before .before .before .before in
     let s = r .before .before .before in
     let k = c .before .read in
-    omega (arith, forward-to (s .args .file .now) (r .before .loop .at) (read.Known (k .given .0 .0) (k .given .0 .1 .0)) (sym (r .read-record .ensures) ∙ k .given .1))
+    omega (arith, forward-to (s .args .file .now) (r .before .loop .at) (read.Known (k .given .0 .0) (k .given .0 .1 .0)) (sym (r .read-record .ensures .0) ∙ k .given .1))
 
 loop-again : tie.Need-loop-again Inv-loop μ-loop
 loop-again c =
     let r = c .before .before .before .before .before .before in
     let s = r .before .before .before in
     let k = c .before .read in
-    omega (arith, forward-to (s .args .file .now) (r .before .loop .at) (read.Known (k .given .0 .0) (k .given .0 .1 .0)) (sym (r .read-record .ensures) ∙ k .given .1))
+    omega (arith, forward-to (s .args .file .now) (r .before .loop .at) (read.Known (k .given .0 .0) (k .given .0 .1 .0)) (sym (r .read-record .ensures .0) ∙ k .given .1))
 
 enum-known-read-2 : tie.Need-enum-known-read-2 Inv-loop μ-loop
 enum-known-read-2 c = search needs
@@ -67,14 +67,14 @@ loop-less-2 c =
     let r = c .before .before .before .before .before .before in
     let s = r .before .before .before in
     let k = c .before .read2 in
-    omega (arith, forward-to (s .args .file .now) (r .before .loop .at) (read.WrongLength (k .given .0 .0)) (sym (r .read-record .ensures) ∙ k .given .1))
+    omega (arith, forward-to (s .args .file .now) (r .before .loop .at) (read.WrongLength (k .given .0 .0)) (sym (r .read-record .ensures .0) ∙ k .given .1))
 
 loop-again-2 : tie.Need-loop-again-2 Inv-loop μ-loop
 loop-again-2 c =
     let r = c .before .before .before .before .before .before in
     let s = r .before .before .before in
     let k = c .before .read2 in
-    omega (arith, forward-to (s .args .file .now) (r .before .loop .at) (read.WrongLength (k .given .0 .0)) (sym (r .read-record .ensures) ∙ k .given .1))
+    omega (arith, forward-to (s .args .file .now) (r .before .loop .at) (read.WrongLength (k .given .0 .0)) (sym (r .read-record .ensures .0) ∙ k .given .1))
 
 enum-known-read-3 : tie.Need-enum-known-read-3 Inv-loop μ-loop
 enum-known-read-3 c = search needs
@@ -84,14 +84,14 @@ loop-less-3 c =
     let r = c .before .before .before .before .before .before in
     let s = r .before .before .before in
     let k = c .before .read3 in
-    omega (arith, forward-to (s .args .file .now) (r .before .loop .at) (read.Unknown (k .given .0 .0)) (sym (r .read-record .ensures) ∙ k .given .1))
+    omega (arith, forward-to (s .args .file .now) (r .before .loop .at) (read.Unknown (k .given .0 .0)) (sym (r .read-record .ensures .0) ∙ k .given .1))
 
 loop-again-3 : tie.Need-loop-again-3 Inv-loop μ-loop
 loop-again-3 c =
     let r = c .before .before .before .before .before .before in
     let s = r .before .before .before in
     let k = c .before .read3 in
-    omega (arith, forward-to (s .args .file .now) (r .before .loop .at) (read.Unknown (k .given .0 .0)) (sym (r .read-record .ensures) ∙ k .given .1))
+    omega (arith, forward-to (s .args .file .now) (r .before .loop .at) (read.Unknown (k .given .0 .0)) (sym (r .read-record .ensures .0) ∙ k .given .1))
 
 pub play-records-spec : {M : Type 1} → statement M
 play-records-spec =

@@ -42,13 +42,13 @@ returns : tie.Need-returns
 returns c =
     let k = c .before .before in
     let s = start k in
-    (skips-all (begins (s .pre)) (calls-at-end (s .args .file .now) (s .args .from .at) (sym (k .read-record .ensures) ∙ c .enum-told .given .1)), λ h. h)
+    (skips-all (begins (s .pre)) (calls-at-end (s .args .file .now) (s .args .from .at) (sym (k .read-record .ensures .0) ∙ c .enum-told .given .1)), λ h. h)
 
 returns-2 : tie.Need-returns-2
 returns-2 c =
     let k = c .before .before in
     let s = start k in
-    (skips-all (begins (s .pre)) (calls-at-cut-off (s .args .file .now) (s .args .from .at) (sym (k .read-record .ensures) ∙ c .enum-told2 .given .1)), λ h. h)
+    (skips-all (begins (s .pre)) (calls-at-cut-off (s .args .file .now) (s .args .from .at) (sym (k .read-record .ensures .0) ∙ c .enum-told2 .given .1)), λ h. h)
 
 returns-3 : tie.Need-returns-3
 returns-3 c =
@@ -59,7 +59,7 @@ returns-3 c =
     let at = s .args .from .at in
     let next = n .next .given .0 .0 in
     let call = n .next .given .0 .1 .0 in
-    let e = sym (k .read-record .ensures) ∙ n .next .given .1 in
+    let e = sym (k .read-record .ensures .0) ∙ n .next .given .1 in
     let on = forward-to file at (read.Known next call) e in
     (stepped (begins (s .pre)) call next (omega (arith, on .0)) (on .1) (calls-at-known file at call next e) (c .before .before .step-on .ensures) (c .count .ensures), λ h. omega (arith, on .0))
 
@@ -70,7 +70,7 @@ returns-4 c =
     let file = s .args .file .now in
     let at = s .args .from .at in
     let next = c .before .next2 .given .0 .0 in
-    let e = sym (k .read-record .ensures) ∙ c .before .next2 .given .1 in
+    let e = sym (k .read-record .ensures .0) ∙ c .before .next2 .given .1 in
     let on = forward-to file at (read.WrongLength next) e in
     (skips (begins (s .pre)) next (omega (arith, on .0)) (on .1) (calls-at-wrong-length file at next e), λ h. omega (arith, on .0))
 
@@ -81,7 +81,7 @@ returns-5 c =
     let file = s .args .file .now in
     let at = s .args .from .at in
     let next = c .before .next3 .given .0 .0 in
-    let e = sym (k .read-record .ensures) ∙ c .before .next3 .given .1 in
+    let e = sym (k .read-record .ensures .0) ∙ c .before .next3 .given .1 in
     let on = forward-to file at (read.Unknown next) e in
     (skips (begins (s .pre)) next (omega (arith, on .0)) (on .1) (calls-at-unknown file at next e), λ h. omega (arith, on .0))
 

@@ -21,31 +21,47 @@ enum-told-3 c = search needs
 enum-told-4 : tie.Need-enum-told-4
 enum-told-4 c = search needs
 
+not-played-requires : tie.Need-not-played-requires
+not-played-requires c κs = search needs
+
+not-played-requires-2 : tie.Need-not-played-requires-2
+not-played-requires-2 c κs = search needs
+
+not-played-requires-3 : tie.Need-not-played-requires-3
+not-played-requires-3 c κs = search needs
+
+not-played-requires-4 : tie.Need-not-played-requires-4
+not-played-requires-4 c κs = search needs
+
 returns : tie.Need-returns
-returns c = rw (c .enum-told .given .1)
+returns c = rw (c .not-played .ensures, c .before .enum-told .given .1)
 
 returns-2 : tie.Need-returns-2
-returns-2 c = rw (c .enum-told2 .given .1)
+returns-2 c = rw (c .not-played2 .ensures, c .before .enum-told2 .given .1)
 
 returns-3 : tie.Need-returns-3
 returns-3 c = rw (c .play .ensures, c .before .before .read .given .1)
 
 returns-4 : tie.Need-returns-4
-returns-4 c = rw (c .enum-told3 .given .1)
+returns-4 c = rw (c .not-played3 .ensures, c .before .enum-told3 .given .1)
 
 returns-5 : tie.Need-returns-5
-returns-5 c = rw (c .enum-told4 .given .1)
+returns-5 c = rw (c .not-played4 .ensures, c .before .enum-told4 .given .1)
 
 pub play-record-spec : {M : Type 1} → statement M
 play-record-spec =
     tie.close
     (tie.spec
     enum-told
+    not-played-requires
     enum-told-2
+    not-played-requires-2
     enum-known-read
     play-requires
     enum-told-3
+    not-played-requires-3
     enum-told-4
+    not-played-requires-4
     returns
     returns-2
     returns-3

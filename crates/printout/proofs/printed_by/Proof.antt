@@ -4,8 +4,11 @@ use borrow.Author.Needs.{needs}
 use Rattle.printout.proofs.printed_by.Statement.{statement}
 use Rattle.printout.proofs.printed_by.Tie as tie
 
+printed-number-requires : tie.Need-printed-number-requires
+printed-number-requires c κs = search needs
+
 returns : tie.Need-returns
-returns c = rw (ne-eqb _ _ (c .if1 .taken))
+returns c = rw (c .printed-number .ensures, ne-eqb _ _ (c .before .if1 .taken))
 
 cast-day : tie.Need-cast-day
 cast-day c = search needs
@@ -59,6 +62,7 @@ pub printed-by-spec : {M : Type 1} → statement M
 printed-by-spec =
     tie.close
     (tie.spec
+    printed-number-requires
     returns
     cast-day
     add-day

@@ -1,17 +1,13 @@
 -- `printout::printed_opening` meets its contract. Assumes nothing.
-use borrow.Author.Tests.{ne-eqb}
+use borrow.Author.Needs.{needs}
 use Rattle.printout.proofs.printed_opening.Statement.{statement}
 use Rattle.printout.proofs.printed_opening.Tie as tie
 
-returns : tie.Need-returns
-returns c = rw (ne-eqb _ _ (c .if1 .taken))
+printed-number-requires : tie.Need-printed-number-requires
+printed-number-requires c κs = search needs
 
-returns-2 : tie.Need-returns-2
-returns-2 c = rw (c .if1 .left)
+returns : tie.Need-returns
+returns c = rw (c .printed-number .ensures)
 
 pub printed-opening-spec : {M : Type 1} → statement M
-printed-opening-spec =
-    tie.close
-    (tie.spec
-    returns
-    returns-2)
+printed-opening-spec = tie.close (tie.spec printed-number-requires returns)
