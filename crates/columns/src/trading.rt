@@ -3,14 +3,14 @@ ghost use mathlib.Core.Path.{_≡_};
 ghost use mathlib.Core.Bool.{cond};
 ghost use Prim.Native.Nat.{_+_, _≤_};
 ghost use lib.Dec.{eqb};
-ghost use Rattle.day.specs.Day.{mostQuantity};
+ghost use Rattle.calls.specs.Trade.{mostQuantity};
 ghost use Rattle.columns.specs.Effects.{exchanged, counted};
 ghost use Rattle.columns.specs.Limits.{mostPosition, volumeStays, positionStays};
 ghost use Rattle.columns.specs.Inner.{mostEntry, mostMoved, Exchangeable, Countable};
 use crate::ACCOUNTS;
 use crate::MOST_POSITION;
 use crate::MOST_VOLUME;
-use day::trade::Trade;
+use calls::trade::Trade;
 
 // What the v of each account of a trade rises by: both sides where they are one account.
 fn counts(t: Trade) -> u64

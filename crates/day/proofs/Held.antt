@@ -16,9 +16,11 @@ use Rattle.funding.specs.declared.FinalMinute.{FinalMinute}
 use Rattle.funding.specs.Price.{leastPrice, largestPrice, noneOrPrice, noneOrTicked}
 use Rattle.funding.specs.Minute.{weightedLimit}
 use Rattle.funding.proofs.Prices.{ticked-price}
-use Rattle.day.specs.declared.{market.Market.Market, Day.Day}
-use Rattle.day.specs.Day.{dayLength, twoSided}
-use Rattle.day.specs.Limits.{minutesHold, uncrossed, marketHolds, minuteMarketHolds, marketsHold, mostAmount, pricesHold, fixHolds, finalHolds, dayHolds}
+use Rattle.calls.specs.declared.market.Market.{Market}
+use Rattle.calls.specs.Market.{twoSided, uncrossed, marketHolds, minuteMarketHolds}
+use Rattle.day.specs.declared.Day.{Day}
+use Rattle.day.specs.Day.{dayLength}
+use Rattle.day.specs.Limits.{minutesHold, marketsHold, mostAmount, pricesHold, fixHolds, finalHolds, dayHolds}
 
 -- ---- what is held
 

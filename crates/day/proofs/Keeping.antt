@@ -20,10 +20,14 @@ use Rattle.funding.specs.Minute.{withinSpread, futuresPrice, basisOf, accrued, 
 use Rattle.funding.specs.declared.Terms.{Terms}
 use Rattle.funding.proofs.Prices.{price-to, the-price}
 use Rattle.funding.proofs.Bounds.{basis-size, futures-is-price, accrued-size}
-use Rattle.day.specs.declared.{market.Market.Market, trade.Trade.Trade, Day.Day}
-use Rattle.day.specs.Day.{dayLength, noMarket, emptyDay, isFixed, twoSided, inLastMinute, simple, block, asMinute, isValid, minuteOf, mostQuantity, leastBlock, tradeOutside}
+use Rattle.calls.specs.declared.market.Market.{Market}
+use Rattle.calls.specs.declared.trade.Trade.{Trade}
+use Rattle.calls.specs.Market.{noMarket, twoSided, asMinute, isValid, marketHolds, minuteMarketHolds}
+use Rattle.calls.specs.Trade.{simple, block, mostQuantity, leastBlock, tradeOutside}
+use Rattle.day.specs.declared.Day.{Day}
+use Rattle.day.specs.Day.{dayLength, emptyDay, isFixed, inLastMinute, minuteOf}
 use Rattle.day.specs.Effects.{withMarkets, minuteEnded, withMinutes, nextMinute}
-use Rattle.day.specs.Limits.{marketHolds, minuteMarketHolds, marketsHold, dayHolds}
+use Rattle.day.specs.Limits.{marketsHold, dayHolds}
 use Rattle.day.proofs.Held.{HeldDay, held-day, held-minute}
 
 -- ---- the parts of a day

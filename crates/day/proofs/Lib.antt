@@ -1,4 +1,3 @@
-pub mod Calls
 pub mod Held
 pub mod Keeping
 pub mod MinuteRules

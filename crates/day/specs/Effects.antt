@@ -3,8 +3,9 @@ use mathlib.Core.Bool.{Bool, cond}
 use Prim.Native.Nat.{ℕ, _+_}
 use lib.IntN.{ℤ}
 use Rattle.funding.specs.Minute.{basisOf, accrued}
-use Rattle.day.specs.declared.{market.Market.Market, market.Markets.Markets, trade.Trade.Trade, Minutes.Minutes, Trades.Trades, Fixed.Fixed, Day.Day}
-use Rattle.day.specs.Day.{dayLength, noMarket, inLastMinute, isFinal, withTrade, asMinute, minuteOf}
+use Rattle.calls.specs.{declared.market.Market.Market, declared.trade.Trade.Trade, Market.noMarket, Market.asMinute}
+use Rattle.day.specs.declared.{Minutes.Minutes, Trades.Trades, Fixed.Fixed, Day.Day}
+use Rattle.day.specs.{Day.dayLength, Day.inLastMinute, Day.isFinal, Day.withTrade, Day.minuteOf, declared.markets.Markets.Markets}
 
 -- ---- a part of a day, changed
 

@@ -1,4 +1,3 @@
-pub mod Calls
 pub mod Day
 pub mod Effects
 pub mod Limits

@@ -1,27 +1,16 @@
 -- The limits on a day, in document 01's order.
 use mathlib.Core.Bool.{Bool, not, _&&_, _||_}
 use Prim.Native.Nat.{ℕ, _*_}
-use lib.Dec.{leb, ltb, eqb}
+use lib.Dec.{leb, eqb}
 use Rattle.integers.specs.Size.{within}
-use Rattle.funding.specs.{declared.FinalMinute.FinalMinute, Price.leastPrice, Price.largestPrice, Price.noneOrPrice, Price.noneOrTicked, Minute.weightedLimit}
-use Rattle.day.specs.{declared.market.Market.Market, declared.market.Markets.Markets, declared.Day.Day, Day.dayLength, Day.twoSided, Day.isFixed}
+use Rattle.funding.specs.{declared.FinalMinute.FinalMinute, Price.leastPrice, Price.largestPrice, Price.noneOrPrice, Minute.weightedLimit}
+use Rattle.calls.specs.Market.{marketHolds, minuteMarketHolds}
+use Rattle.day.specs.{declared.Day.Day, Day.dayLength, Day.isFixed, declared.markets.Markets.Markets}
 
 -- 01: "ended minutes 0 to 1,320; valid count k at most the ended minutes; weighted sum S at most 9,999 × 10^9 × k(k+1)/2 in size"
 abbrev pub minutesHold : Day → Bool
 minutesHold d =
     leb (d .minutes .ended) (dayLength d) && leb (d .minutes .valid) (d .minutes .ended) && within (d .minutes .weighted) (weightedLimit (d .minutes .valid))
-
--- 01: "bid below offer when both stand"
-abbrev pub uncrossed : Market → Bool
-uncrossed m = not (twoSided m) || ltb (m .bid) (m .offer)
-
--- 01: "market sides 0 or ticked, bid below offer when both stand"
-abbrev pub marketHolds : Market → Bool
-marketHolds m = noneOrTicked (m .bid) && noneOrTicked (m .offer) && uncrossed m
-
--- 01: "the minute's market none or two-sided, likewise"
-abbrev pub minuteMarketHolds : Market → Bool
-minuteMarketHolds m = marketHolds m && (twoSided m || (eqb (m .bid) 0 && eqb (m .offer) 0))
 
 abbrev pub marketsHold : Markets → Bool
 marketsHold m = marketHolds (m .standing) && minuteMarketHolds (m .minute)

@@ -3,8 +3,8 @@
 use mathlib.Core.{Path._≡_, Bool.true, Bool.false}
 use Prim.Native.Nat.{ℕ}
 use Rattle.funding.specs.{Terms.standardTerms, Minute.mostMinutes}
-use Rattle.day.specs.declared.{market.Market.Market, trade.Trade.Trade}
-use Rattle.day.specs.Day.{noMarket, asMinute, isValid, isFinal}
+use Rattle.calls.specs.{declared.market.Market.Market, declared.trade.Trade.Trade, Market.noMarket, Market.asMinute, Market.isValid}
+use Rattle.day.specs.Day.{isFinal}
 
 abbrev market : ℕ → ℕ → Market
 market bid offer = record { bid = bid; offer = offer }

@@ -9,17 +9,15 @@ ghost use Rattle.day.specs.Effects.{withMarkets, withMinutes, withTrades
 ghost use Rattle.day.specs.Effects.{quoted as Effects·quoted};
 ghost use Rattle.day.specs.Effects.{traded as Effects·traded};
 ghost use Rattle.day.specs.Inner.{RoomForTrade, Endable};
+use calls::market::Market;
+use calls::trade::Trade;
 use funding::FinalMinute;
 use funding::MOST_MINUTES;
 use funding::none_or_price;
 use integers::is_within;
-use market::Market;
-use market::Markets;
-use trade::Trade;
+use markets::Markets;
 
-pub mod call;
-pub mod market;
-pub mod trade;
+pub mod markets;
 
 pub const MOST_AMOUNT: u64 = 10_000;
 

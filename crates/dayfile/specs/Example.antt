@@ -1,7 +1,7 @@
 -- One file with a record of each fate. The numbers are those of document 01's example.
 use mathlib.Core.{Path._≡_, List.List, List.[], List._∷_, List._++_}
 use Prim.Native.Nat.{ℕ}
-use Rattle.day.specs.declared.call.Call.the-variants as call
+use Rattle.calls.specs.declared.Call.the-variants as call
 use Rattle.dayfile.specs.declared.Read.the-variants as read
 use Rattle.dayfile.specs.Calls.{recordsOf}
 

@@ -4,9 +4,9 @@ ghost use Prim.Native.Nat.{_+_, _≤_, _<_};
 ghost use lib.ListN.{length};
 ghost use Rattle.dayfile.specs.Record.{byteAt, twoBytes, fourBytes, tagOf, bodyLength, tradeAt, quoteAt, callOf};
 ghost use Rattle.dayfile.specs.Record.{statedLength, complete, readAt, byteOf, isRecordAt, readNumber, recordRefusal};
-use day::call::Call;
-use day::market::Market;
-use day::trade::Trade;
+use calls::Call;
+use calls::market::Market;
+use calls::trade::Trade;
 
 // The bytes of a tag and a length.
 pub const HEAD: usize = 3;

@@ -18,14 +18,18 @@ use Rattle.funding.specs.Terms.{clamp}
 use Rattle.funding.specs.Fixing.{rateOf}
 use Rattle.funding.proofs.Prices.{none-or-price, price-most}
 use Rattle.funding.proofs.Bounds.{clamped-size, amount-size, settlement-is-price}
-use Rattle.day.specs.declared.{market.Market.Market, trade.Trade.Trade, call.Call.Call, Day.Day}
+use Rattle.day.specs.declared.Day.{Day}
 use Rattle.figures.specs.declared.Figures.{Figures}
-use Rattle.day.specs.declared.call.Call.the-variants as call
-use Rattle.day.specs.Day.{dayLength, noMarket, isFixed, asMinute}
+use Rattle.calls.specs.declared.Call.the-variants as call
+use Rattle.calls.specs.declared.market.Market.{Market}
+use Rattle.calls.specs.declared.trade.Trade.{Trade}
+use Rattle.calls.specs.declared.Call.{Call}
+use Rattle.calls.specs.Market.{noMarket, asMinute, uncrossed, marketHolds, minuteMarketHolds}
+use Rattle.day.specs.Day.{dayLength, isFixed}
 use Rattle.figures.specs.Figures.{termsOn, tieOn, tenth, mostDays}
 use Rattle.day.specs.Effects.{withMarkets, quoted, withFixed}
 use Rattle.figures.specs.Effects.{fixPrice, fixRate, fixAmount, fixedAt, figuresAfter}
-use Rattle.day.specs.Limits.{mostAmount, uncrossed, marketHolds, minuteMarketHolds, marketsHold}
+use Rattle.day.specs.Limits.{mostAmount, marketsHold}
 use Rattle.figures.specs.Refusals.{isFull, dayForbids, noAccounts, Accounts}
 use Rattle.figures.specs.Outcome.{FiguresKept}
 use Rattle.day.proofs.Held.{HeldDay, HeldFinal, held-final}

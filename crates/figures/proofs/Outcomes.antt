@@ -5,8 +5,9 @@
 use mathlib.Core.Path.{_≡_, _∙_}
 use Prim.Native.Nat.{ℕ}
 use borrow.Author.Tests.{ne-eqb}
-use Rattle.day.specs.declared.call.Call.{Call}
-use Rattle.figures.specs.declared.{Figures.Figures, outcome.Outcome.Outcome}
+use Rattle.calls.specs.declared.Call.{Call}
+use Rattle.figures.specs.declared.Figures.{Figures}
+use Rattle.figures.specs.declared.outcome.Outcome.{Outcome}
 use Rattle.figures.specs.Effects.{figuresAfter, fixingOf}
 use Rattle.figures.specs.Refusals.{figuresRefusal}
 use Rattle.figures.specs.Outcome.{numbered, outcome}

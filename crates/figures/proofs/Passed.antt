@@ -10,7 +10,7 @@ use Prim.Native.Nat.{ℕ, zero, suc}
 use lib.Dec.{eqb}
 use borrow.Author.Tests.{eq-eqb}
 use Rattle.integers.proofs.Tests.{both-true, both-false}
-use Rattle.day.specs.declared.call.Call.{Call}
+use Rattle.calls.specs.declared.Call.{Call}
 use Rattle.figures.specs.declared.Figures.{Figures}
 use Rattle.figures.specs.Refusals.{notAllowed, haltForbids, outsideField, crossed, unpriced, Accounts, sentences, firstMet}
 

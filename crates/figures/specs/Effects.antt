@@ -3,10 +3,11 @@ use mathlib.Core.Bool.{Bool, true, false}
 use Prim.Native.Nat.{ℕ, _+_}
 use lib.IntN.{ℤ, pos}
 use Rattle.funding.specs.Fixing.{rateOf, clampedTo, amountOf, settlementPrice}
-use Rattle.day.specs.{declared.call.Call.Call, declared.Fixed.Fixed, declared.Day.Day, Calls.onFix, Day.noMarkets, Day.emptyDay, Day.isValid}
+use Rattle.day.specs.{declared.Fixed.Fixed, declared.Day.Day, Day.noMarkets, Day.emptyDay}
 use Rattle.day.specs.Effects.{withMarkets, withMinutes, withTrades, withFixed, quoted, traded, minuteEnded, nextMinute}
 use Rattle.figures.specs.{declared.Figures.Figures, declared.outcome.Fixing.Fixing, Figures.termsOn, Figures.tieOn}
-use Rattle.day.specs.declared.call.Call.the-variants as call
+use Rattle.calls.specs.declared.Call.the-variants as call
+use Rattle.calls.specs.{declared.Call.Call, Calls.onFix, Market.isValid}
 
 abbrev pub withDay : Figures → Bool → Day → Figures
 withDay f halted d = record { size = f .size; closed = f .closed; halted = halted; previous = f .previous; day = d }

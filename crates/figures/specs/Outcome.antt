@@ -2,7 +2,8 @@
 use mathlib.Core.{Path._≡_, Bool.true, Bool.cond}
 use Prim.Native.Nat.{ℕ}
 use lib.Dec.{eqb}
-use Rattle.day.specs.{declared.call.Call.Call, Limits.finalHolds}
+use Rattle.calls.specs.declared.Call.{Call}
+use Rattle.day.specs.Limits.{finalHolds}
 use Rattle.figures.specs.{declared.Figures.Figures, declared.outcome.Outcome.Outcome, Effects.noFixing, Effects.figuresAfter, Effects.fixingOf}
 use Rattle.figures.specs.{Figures.figuresHold, Figures.freshFigures, Figures.isSize, Refusals.figuresRefusal}
 

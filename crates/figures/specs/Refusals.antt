@@ -3,9 +3,9 @@ use mathlib.Core.{Bool.Bool, Bool.false, Bool.not, Bool.cond, Bool._&&_, Bool._|
 use Prim.Native.Nat.{ℕ}
 use lib.Dec.{leb}
 use Rattle.funding.specs.Price.{isPresent, noneOrPrice, noneOrTicked}
-use Rattle.day.specs.declared.{call.Call.Call, Day.Day}
-use Rattle.day.specs.Calls.{onQuote, onTrade, onHalt, onResume, onMinuteEnd, onFix, onClose}
-use Rattle.day.specs.{Day.isFixed, Day.tradeOutside, Day.forbidsFix, Day.forbidsMinuteEnd, Limits.uncrossed}
+use Rattle.calls.specs.{declared.Call.Call, Calls.onQuote, Calls.onTrade, Calls.onHalt, Calls.onResume, Calls.onMinuteEnd, Calls.onFix, Calls.onClose}
+use Rattle.calls.specs.{Trade.tradeOutside, Market.uncrossed}
+use Rattle.day.specs.{declared.Day.Day, Day.isFixed, Day.forbidsFix, Day.forbidsMinuteEnd}
 use Rattle.figures.specs.{declared.Figures.Figures, Figures.mostDays, Effects.fixPrice}
 
 -- 3: "any call on a book with 2,600 closed days"

@@ -9,10 +9,10 @@ ghost use Rattle.figures.specs.Refusals.{isFull, firstMet, figuresRefusa
 ghost use Rattle.figures.specs.Outcome.{numbered, outcome};
 ghost use Rattle.day.specs.Inner.{RoomForTrade};
 ghost use Rattle.figures.specs.Inner.{Fixable, changed};
+use calls::Call;
+use calls::market::Market;
+use calls::trade::Trade;
 use day::Day;
-use day::call::Call;
-use day::market::Market;
-use day::trade::Trade;
 use funding::Previous;
 use funding::Terms;
 use funding::none_or_price;

@@ -5,7 +5,7 @@ use mathlib.Core.List.{List, [], _∷_, reverseAux}
 use Prim.Native.Nat.{ℕ}
 use borrow.Author.Tests.{eqb-true}
 use Rattle.integers.specs.Lists.{keepIf}
-use Rattle.day.specs.declared.call.Call.{Call}
+use Rattle.calls.specs.declared.Call.{Call}
 use Rattle.ledger.specs.declared.Book.{Book}
 use Rattle.ledger.specs.Effects.{effect}
 use Rattle.ledger.specs.Refusals.{refusal}

@@ -9,8 +9,7 @@ use native.Mathlib.Nat.{add-zero}
 use lib.Dec.{T, eqb, eqb→eq, eqb-refl}
 use lib.IntN.{ℤ, pos, _+ℤ_, +ℤ-idr}
 use lib.ListN.{getD, set, replicate}
-use Rattle.columns.specs.Columns.{table}
-use Rattle.columns.specs.Columns.{raise, raiseCount}
+use Rattle.columns.specs.Columns.{table, raise, raiseCount}
 
 module _ {A : Type 0} where
   pub table-ext : (n : ℕ) (f g : ℕ → A) → ((j : ℕ) → j < n → f j ≡ g j) → table n f ≡ table n g

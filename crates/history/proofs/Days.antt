@@ -9,13 +9,13 @@ use borrow.Author.Tests.{eqb-true, not-false}
 use Rattle.integers.specs.Lists.{Every}
 use Rattle.integers.proofs.Tests.{both-false}
 use Rattle.funding.specs.Price.{isPresent}
-use Rattle.day.specs.declared.call.Call.{Call}
-use Rattle.day.specs.declared.call.Call.the-variants as call
-use Rattle.day.specs.Calls.{onClose}
+use Rattle.calls.specs.declared.Call.the-variants as call
+use Rattle.calls.specs.declared.Call.{Call}
+use Rattle.calls.specs.Calls.{onClose}
+use Rattle.calls.proofs.Calls.{FixOr, CloseOr, fix, close, fix-or, close-or, on-close-is}
 use Rattle.figures.specs.Effects.{fixPrice}
 use Rattle.figures.specs.Refusals.{isFull, dayForbids}
-use Rattle.day.proofs.Calls.{FixOr, fix, CloseOr, close, fix-or, close-or, on-close-is}
-use Rattle.day.proofs.Calls as calls
+use Rattle.calls.proofs.Calls as calls
 use Rattle.ledger.proofs.Held.{held}
 use Rattle.ledger.proofs.Passed.{Passed}
 use Rattle.history.specs.History.{History, Moment, lengthOf, closings, today, fixes, minutes}

@@ -12,16 +12,16 @@ use Rattle.integers.specs.Lists.{keepIf, sumCount, sum}
 use Rattle.integers.proofs.Ring.{ring, _⊕_, _⊖_, _⊗_, ⊝_, num}
 use Rattle.funding.specs.Minute.{weightedSum}
 use Rattle.columns.specs.Columns.{table, raise, raiseCount}
-use Rattle.day.specs.declared.trade.Trade.{Trade}
-use Rattle.day.specs.declared.call.Call.{Call}
 use Rattle.day.specs.declared.Day.{Day}
 use Rattle.figures.specs.declared.Figures.{Figures}
-use Rattle.day.specs.declared.call.Call.the-variants as call
+use Rattle.calls.specs.declared.Call.the-variants as call
+use Rattle.calls.specs.declared.trade.Trade.{Trade}
+use Rattle.calls.specs.declared.Call.{Call}
+use Rattle.calls.proofs.Calls.{TradeOr, CloseOr, trade, close, trade-or, close-or}
 use Rattle.day.specs.Day.{isFinal, minuteOf}
 use Rattle.day.specs.Effects.{traded, minuteEnded}
 use Rattle.figures.specs.Effects.{figuresAfter}
-use Rattle.day.proofs.Calls.{TradeOr, trade, CloseOr, close, trade-or, close-or}
-use Rattle.day.proofs.Calls as calls
+use Rattle.calls.proofs.Calls as calls
 use Rattle.columns.specs.Effects.{exchanged, counted, posting}
 use Rattle.columns.proofs.Columns.{table-at}
 use Rattle.ledger.specs.declared.Book.{Book}

@@ -6,7 +6,8 @@ use lib.{Dec.eqb, IntN.ℤ, IntN.pos, IntN.negℤ, IntN._+ℤ_, IntN._-ℤ_, Int
 use Rattle.integers.specs.Lists.{sumCount, sum}
 use Rattle.funding.specs.{declared.FinalMinute.FinalMinute, declared.Previous.Previous, Minute.weightedSum}
 use Rattle.funding.specs.Fixing.{rateOf, clampedTo, amountOf, settlementPrice}
-use Rattle.day.specs.{declared.trade.Trade.Trade, Day.inLastMinute}
+use Rattle.calls.specs.declared.trade.Trade.{Trade}
+use Rattle.day.specs.Day.{inLastMinute}
 use Rattle.history.specs.History.{History, Moment, lengthOf, termsOf, tieOf, closings, closedPart, trades, minuteEnds, fixes, validMinutes, finalTrades}
 
 -- 01: "n and gross add up its final-minute kind 0 trades"

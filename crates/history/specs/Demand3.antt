@@ -10,8 +10,8 @@ use mathlib.Core.{Path._≡_, List.List, List.[], List._∷_, List._++_, List.re
 use Prim.Native.Nat.{ℕ, _<_}
 use lib.{IntN.ℤ, IntN.pos, ListN.length}
 use Rattle.integers.specs.Lists.{Every, sum}
-use Rattle.day.specs.declared.call.Call.{Call}
-use Rattle.day.specs.declared.call.Call.the-variants as call
+use Rattle.calls.specs.declared.Call.the-variants as call
+use Rattle.calls.specs.declared.Call.{Call}
 use Rattle.columns.specs.Columns.{entry}
 use Rattle.ledger.specs.{declared.Book.Book, Step.run, Step.acceptedCalls, Step.opening}
 use Rattle.history.specs.{History.History, History.lengthOf, History.closings, History.today, History.minuteEnds, History.fixes, Cash.net, Cash.cashOf}

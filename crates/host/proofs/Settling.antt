@@ -9,7 +9,7 @@ use mathlib.Core.List.{List, [], _∷_, reverseAux}
 use Prim.Native.Nat.{ℕ, _+_}
 use native.Mathlib.Omega.{arith}
 use lib.ListN.{length}
-use Rattle.day.specs.declared.call.Call.{Call}
+use Rattle.calls.specs.declared.Call.{Call}
 use Rattle.figures.specs.Figures.{isSize}
 use Rattle.columns.specs.Columns.{accounts}
 use Rattle.ledger.specs.declared.Book.{Book}

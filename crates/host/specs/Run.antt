@@ -3,7 +3,7 @@ use mathlib.Core.{Path._≡_, Bool.Bool, Bool.true, Bool.cond, Bool._&&_, List.L
 use Prim.Native.Nat.{ℕ, _<_}
 use lib.{Dec.eqb, IntN.ℤ, IntN.pos, ListN.length}
 use Rattle.integers.specs.Lists.{Every}
-use Rattle.day.specs.declared.call.Call.{Call}
+use Rattle.calls.specs.declared.Call.{Call}
 use Rattle.columns.specs.Columns.{accounts, entry}
 use Rattle.ledger.specs.{declared.Book.Book, Step.run, Step.acceptedCalls, Step.opening}
 use Rattle.history.specs.{Cash.net, Cash.cashOf, Demand3.history, Demand3.total, Demand3.callsOfDays, Demand3.Whole, History.closings, History.today}

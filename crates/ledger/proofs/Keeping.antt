@@ -13,10 +13,11 @@ use native.Mathlib.Omega.{arith}
 use lib.ListN.{length-set, length-replicate, set}
 use borrow.Author.Tests.{eqb-true}
 use Rattle.integers.proofs.Tests.{by-test}
-use Rattle.day.specs.declared.call.Call.the-variants as call
+use Rattle.calls.specs.declared.Call.the-variants as call
+use Rattle.calls.specs.Calls.{onTrade}
+use Rattle.calls.specs.declared.Call.{Call}
 use Rattle.figures.specs.Effects.{figuresAfter}
 use Rattle.figures.specs.Figures.{isSize, figuresHold}
-use Rattle.day.specs.Calls.{onTrade}
 use Rattle.figures.specs.Refusals.{noAccounts}
 use Rattle.figures.proofs.Held.{HeldFigures}
 use Rattle.figures.proofs.Keeping.{held-after}
@@ -27,7 +28,6 @@ use Rattle.ledger.specs.Effects.{withFigures, effect}
 use Rattle.ledger.specs.Refusals.{refusal, withinLimits}
 use Rattle.ledger.specs.Step.{isAccepted, step, run, fresh, opening}
 use Rattle.ledger.specs.Keeping.{Shaped, FreshShaped, ShapeKept, FreshWithin, LimitsKept, RunWithin, NeverBeyond, RefusedBeyond}
-use Rattle.day.specs.declared.call.Call.{Call}
 use Rattle.figures.specs.declared.Figures.{Figures}
 use Rattle.ledger.specs.declared.Book.{Book}
 use Rattle.ledger.proofs.Held.{Held, held, holds}

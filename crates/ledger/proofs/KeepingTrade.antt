@@ -16,7 +16,8 @@ use Rattle.integers.specs.Size.{within}
 use Rattle.integers.proofs.Order.{abs-neg, abs-add}
 use Rattle.integers.proofs.Tests.{tests, by-test, each}
 use Rattle.funding.specs.Price.{largestPrice}
-use Rattle.day.specs.declared.call.Call.the-variants as call
+use Rattle.calls.specs.declared.Call.the-variants as call
+use Rattle.calls.specs.declared.trade.Trade.{Trade}
 use Rattle.day.specs.Day.{dayLength, isFinal, withTrade}
 use Rattle.figures.specs.Effects.{figuresAfter}
 use Rattle.day.proofs.Held.{HeldFinal}
@@ -27,7 +28,6 @@ use Rattle.columns.specs.Effects.{exchanged, counted}
 use Rattle.columns.proofs.Columns.{sum-raised}
 use Rattle.ledger.specs.Effects.{tradedBook}
 use Rattle.ledger.specs.Keeping.{Shaped}
-use Rattle.day.specs.declared.trade.Trade.{Trade}
 use Rattle.figures.specs.declared.Figures.{Figures}
 use Rattle.ledger.specs.declared.Book.{Book}
 use Rattle.ledger.proofs.Held.{Account, Held}

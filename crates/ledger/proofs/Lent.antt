@@ -12,6 +12,8 @@ use lib.Dec.{eqb}
 use lib.IntN.{ℤ, natAbs}
 use lib.ListN.{length}
 use Rattle.funding.specs.Price.{largestPrice}
+use Rattle.calls.specs.declared.trade.Trade.{Trade}
+use Rattle.calls.specs.declared.Call.{Call}
 use Rattle.figures.specs.Effects.{figuresAfter}
 use Rattle.figures.specs.Refusals.{firstMet, figuresRefusal}
 use Rattle.figures.specs.Outcome.{outcome}
@@ -24,8 +26,8 @@ use Rattle.ledger.specs.Effects.{withFigures, effect}
 use Rattle.ledger.specs.Refusals.{sentencesOf, refusal}
 use Rattle.ledger.specs.Step.{step}
 use Rattle.ledger.specs.Inner.{bookOf, answerOf, answered, Tradable, WithinLimits}
-use Rattle.day.specs.declared.{trade.Trade.Trade, call.Call.Call}
-use Rattle.figures.specs.declared.{Figures.Figures, outcome.Outcome.Outcome}
+use Rattle.figures.specs.declared.Figures.{Figures}
+use Rattle.figures.specs.declared.outcome.Outcome.{Outcome}
 use Rattle.ledger.specs.declared.Book.{Book}
 use Rattle.ledger.proofs.Held.{Held, held, contracts-most}
 

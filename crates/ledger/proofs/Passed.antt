@@ -9,16 +9,17 @@ use mathlib.Core.List.{[], _∷_}
 use Prim.Native.Nat.{ℕ}
 use lib.Dec.{eqb}
 use borrow.Author.Tests.{not-false}
-use Rattle.day.specs.declared.call.Call.the-variants as call
-use Rattle.day.specs.Calls.{onTrade}
+use Rattle.calls.specs.declared.Call.the-variants as call
+use Rattle.calls.specs.Calls.{onTrade}
+use Rattle.calls.specs.Trade.{tradeOutside}
+use Rattle.calls.specs.declared.trade.Trade.{Trade}
+use Rattle.calls.specs.declared.Call.{Call}
 use Rattle.figures.specs.Refusals.{notAllowed, Accounts, noAccounts, sentences, firstMet, figuresRefusal}
-use Rattle.day.specs.Day.{tradeOutside}
 use Rattle.figures.proofs.Passed.{unmet, never-met}
 use Rattle.figures.proofs.Passed.{Passed as PassedFigures}
 use Rattle.figures.proofs.Passed.{passed as passed-figures}
 use Rattle.columns.specs.Limits.{accountsOf}
 use Rattle.ledger.specs.Refusals.{sentencesOf, refusal, withinLimits}
-use Rattle.day.specs.declared.{trade.Trade.Trade, call.Call.Call}
 use Rattle.figures.specs.declared.Figures.{Figures}
 use Rattle.ledger.specs.declared.Book.{Book}
 

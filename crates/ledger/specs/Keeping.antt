@@ -3,8 +3,8 @@
 use mathlib.Core.{Path._≡_, Bool.true, List.List}
 use Prim.Native.Nat.{ℕ}
 use lib.ListN.{length}
+use Rattle.calls.specs.declared.Call.{Call}
 use Rattle.figures.specs.Figures.{isSize}
-use Rattle.day.specs.declared.call.Call.{Call}
 use Rattle.ledger.specs.{declared.Book.Book, Effects.effect, Refusals.refusal, Refusals.withinLimits, Step.fresh, Step.opening, Step.run, Step.reportRefusal}
 
 -- each column has an entry for each of n accounts

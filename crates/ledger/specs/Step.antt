@@ -3,8 +3,8 @@ use mathlib.Core.{Bool.Bool, Bool.cond, Bool.not, Bool._||_, List.List, List.[],
 use Prim.Native.Nat.{ℕ}
 use lib.{Dec.eqb, IntN.pos, IntN.ℤ, ListN.replicate}
 use Rattle.integers.specs.Lists.{keepIf}
+use Rattle.calls.specs.declared.Call.{Call}
 use Rattle.figures.specs.{Effects.noFixing, Effects.fixingOf, Refusals.firstMet, Figures.freshFigures, Outcome.opened, declared.Figures.Figures}
-use Rattle.day.specs.declared.call.Call.{Call}
 use Rattle.ledger.specs.{declared.Book.Book, declared.Answer.Answer, Effects.effect, Refusals.refusal, Refusals.withinLimits}
 
 -- ---- the opening

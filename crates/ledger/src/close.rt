@@ -4,9 +4,9 @@ ghost use Rattle.columns.specs.Columns.{accounts};
 ghost use Rattle.columns.specs.Inner.{Closable};
 ghost use Rattle.ledger.specs.Inner.{answered, bookOf, answerOf};
 ghost use Rattle.ledger.specs.declared.Book.{Book};
+use calls::Call;
 use columns::ACCOUNTS;
 use columns::posting::post;
-use day::call::Call;
 use figures::Figures;
 use figures::outcome::Outcome;
 

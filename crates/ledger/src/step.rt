@@ -8,8 +8,8 @@ ghost use Rattle.ledger.specs.declared.Book.{Book};
 use crate::close::close_on;
 use crate::limits::limits_hold;
 use crate::trading::trade_on;
+use calls::Call;
 use columns::ACCOUNTS;
-use day::call::Call;
 use figures::Figures;
 use figures::outcome::Outcome;
 

@@ -1,10 +1,10 @@
 // Drives every call and every refusal of the ledger and prints what each answers. The cases are the lines of the file stdin,
 // which says how they are written; the stored printout is worked out by hand from document 01.
 mod books;
-mod calls;
 mod changes;
 mod fields;
 mod making;
+mod named_calls;
 mod numbers;
 mod print;
 mod reports;

@@ -1,12 +1,12 @@
 // The cases, line by line.
 use crate::books::empty;
-use crate::calls::MINUTE_ENDS;
-use crate::calls::NOTHING;
-use crate::calls::OPENING;
-use crate::calls::PRODUCTS;
-use crate::calls::QUOTE;
-use crate::calls::REPORT;
 use crate::making::made_book;
+use crate::named_calls::MINUTE_ENDS;
+use crate::named_calls::NOTHING;
+use crate::named_calls::OPENING;
+use crate::named_calls::PRODUCTS;
+use crate::named_calls::QUOTE;
+use crate::named_calls::REPORT;
 use crate::numbers::HALF;
 use crate::numbers::Numbers;
 use crate::numbers::reading_of;

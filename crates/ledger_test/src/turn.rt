@@ -1,8 +1,8 @@
 // One call, or one row of calls, on a book, printed with its answer.
-use crate::calls::CLOSE;
-use crate::calls::QUOTE;
-use crate::calls::made;
 use crate::changes::changes;
+use crate::named_calls::CLOSE;
+use crate::named_calls::QUOTE;
+use crate::named_calls::made;
 use crate::numbers::Numbers;
 use crate::numbers::of_signed;
 use crate::reports::report;

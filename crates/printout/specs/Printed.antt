@@ -2,7 +2,7 @@
 use mathlib.Core.Bool.{Bool, not, cond, _||_}
 use Prim.Native.Nat.{ℕ, _+_}
 use lib.{Dec.eqb, IntN.ℤ, IntN.natAbs}
-use Rattle.day.specs.{declared.call.Call.Call, Calls.onFix, Calls.onClose}
+use Rattle.calls.specs.{declared.Call.Call, Calls.onFix, Calls.onClose}
 use Rattle.columns.specs.Columns.{accounts}
 use Rattle.ledger.specs.{declared.Book.Book, declared.Answer.Answer, Step.step}
 use Rattle.dayfile.specs.{declared.Read.Read, Record.readNumber}

@@ -2,7 +2,7 @@
 ghost use mathlib.Core.Path.{_≡_};
 ghost use Rattle.ledger.specs.Step.{step};
 ghost use Rattle.printout.specs.Printed.{printedNumber, printedOpening, printedBy, played, notPlayed, playedRecord, isPrinted};
-use day::call::Call;
+use calls::Call;
 use dayfile::Read;
 use figures::outcome::Fixing;
 use ledger::Answer;

@@ -11,8 +11,8 @@ use Rattle.dayfile.proofs.Reading.{record-at, known-at}
 use Rattle.dayfile.specs.declared.Tag.the-variants as tag
 use Rattle.dayfile.specs.Record.{fourBytes, isRecordAt}
 use Rattle.ledger.specs.declared.Book.{Book}
-use Rattle.day.specs.declared.call.Call.{Call}
-use Rattle.day.specs.declared.call.Call.the-variants as call
+use Rattle.calls.specs.declared.Call.the-variants as call
+use Rattle.calls.specs.declared.Call.{Call}
 use Rattle.ledger.specs.Effects.{effect}
 use Rattle.ledger.specs.Inner.{bookOf, answerOf}
 use Rattle.ledger.specs.Step.{step, opening}

@@ -13,9 +13,9 @@ use Rattle.dayfile.proofs.Reading.{record-at, known-at}
 use Rattle.dayfile.specs.declared.Tag.the-variants as tag
 use Rattle.dayfile.specs.Record.{tradeAt, isRecordAt}
 use Rattle.ledger.specs.declared.Book.{Book}
-use Rattle.day.specs.declared.trade.Trade.{Trade}
-use Rattle.day.specs.declared.call.Call.{Call}
-use Rattle.day.specs.declared.call.Call.the-variants as call
+use Rattle.calls.specs.declared.Call.the-variants as call
+use Rattle.calls.specs.declared.trade.Trade.{Trade}
+use Rattle.calls.specs.declared.Call.{Call}
 use Rattle.columns.specs.Columns.{accounts}
 use Rattle.ledger.specs.Inner.{bookOf}
 use Rattle.ledger.specs.Step.{step, opening}

@@ -3,7 +3,8 @@ use mathlib.Core.Path.{_≡_, sym, _∙_, ap}
 use mathlib.Core.Bool.{_&&_}
 use lib.Dec.{eqb}
 use borrow.Author.Needs.{needs}
-use Rattle.day.specs.Day.{dayLength, simple, isFinal}
+use Rattle.calls.specs.Trade.{simple}
+use Rattle.day.specs.Day.{dayLength, isFinal}
 use Rattle.day.proofs.Day.traded.Statement.{statement}
 use Rattle.day.proofs.Day.traded.Tie as tie
 

@@ -6,7 +6,7 @@ use mir.Facts.{toZ-ofZ}
 use borrow.Author.Needs.{needs}
 use Rattle.figures.specs.declared.outcome.Fixing.{Fixing}
 use Rattle.figures.specs.Effects.{figuresAfter, fixingOf}
-use Rattle.day.specs.declared.call.Call.the-variants as call
+use Rattle.calls.specs.declared.Call.the-variants as call
 use Rattle.figures.proofs.Outcomes.{refused-is, accepted-is}
 use Rattle.figures.proofs.Figures.fix.Statement.{statement}
 use Rattle.figures.proofs.Figures.fix.Tie as tie

@@ -3,7 +3,7 @@ use mathlib.Core.Path.{_∙_}
 use mathlib.Core.Bool.{or-false}
 use borrow.Author.Needs.{needs}
 use Rattle.figures.specs.Effects.{figuresAfter, fixingOf}
-use Rattle.day.specs.declared.call.Call.the-variants as call
+use Rattle.calls.specs.declared.Call.the-variants as call
 use Rattle.figures.proofs.Outcomes.{refused-is, accepted-is}
 use Rattle.figures.proofs.Figures.halt.Statement.{statement}
 use Rattle.figures.proofs.Figures.halt.Tie as tie

@@ -10,12 +10,13 @@ use borrow.Author.Needs.{needs}
 use Rattle.integers.proofs.Tests.{tests, each, none}
 use Rattle.funding.specs.Minute.{withinSpread}
 use Rattle.funding.specs.Price.{isPresent, noneOrPrice}
-use Rattle.day.specs.Day.{dayLength, twoSided, isFixed, isValid}
+use Rattle.day.specs.Day.{dayLength, isFixed}
 use Rattle.figures.specs.Figures.{termsOn}
 use Rattle.figures.specs.Refusals.{isFull, dayForbids, noAccounts}
 use Rattle.figures.specs.declared.Figures.{Figures}
 use Rattle.figures.specs.Effects.{figuresAfter, fixingOf}
-use Rattle.day.specs.declared.call.Call.the-variants as call
+use Rattle.calls.specs.declared.Call.the-variants as call
+use Rattle.calls.specs.Market.{twoSided, isValid}
 use Rattle.figures.proofs.Outcomes.{refused-is, accepted-is}
 use Rattle.figures.proofs.Held.{held-figures}
 use Rattle.figures.proofs.Passed.{passed}

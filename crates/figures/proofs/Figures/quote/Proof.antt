@@ -2,7 +2,7 @@
 use mathlib.Core.Path.{_∙_}
 use borrow.Author.Needs.{needs}
 use Rattle.figures.specs.Effects.{figuresAfter, fixingOf}
-use Rattle.day.specs.declared.call.Call.the-variants as call
+use Rattle.calls.specs.declared.Call.the-variants as call
 use Rattle.figures.proofs.Outcomes.{refused-is, accepted-is}
 use Rattle.figures.proofs.Figures.quote.Statement.{statement}
 use Rattle.figures.proofs.Figures.quote.Tie as tie

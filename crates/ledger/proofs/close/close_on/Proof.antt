@@ -3,7 +3,7 @@ use borrow.Author.Needs.{needs}
 use Rattle.figures.specs.Effects.{fixingOf}
 use Rattle.ledger.specs.Effects.{effect}
 use Rattle.ledger.specs.Inner.{bookOf}
-use Rattle.day.specs.declared.call.Call.the-variants as call
+use Rattle.calls.specs.declared.Call.the-variants as call
 use Rattle.figures.proofs.Held.{held-figures}
 use Rattle.columns.specs.Columns.{accounts}
 use Rattle.ledger.proofs.Answers.{refused-answer, accepted-answer}

@@ -6,7 +6,7 @@ use borrow.Author.Needs.{needs}
 use Rattle.ledger.specs.Effects.{effect}
 use Rattle.ledger.specs.Inner.{bookOf}
 use Rattle.ledger.specs.Step.{step}
-use Rattle.day.specs.declared.call.Call.the-variants as call
+use Rattle.calls.specs.declared.Call.the-variants as call
 use Rattle.figures.proofs.Held.{figures-hold}
 use Rattle.columns.specs.Columns.{accounts}
 use Rattle.ledger.specs.declared.Book.{Book}

@@ -4,9 +4,9 @@ use Prim.Native.Nat.{_*_, _≤_}
 use native.Mathlib.Omega.{arith}
 use borrow.Author.Needs.{needs}
 use Rattle.funding.specs.Price.{largestPrice}
-use Rattle.day.specs.declared.call.Call.the-variants as call
+use Rattle.calls.specs.declared.Call.the-variants as call
+use Rattle.calls.specs.Trade.{mostQuantity}
 use Rattle.figures.specs.Effects.{fixingOf}
-use Rattle.day.specs.Day.{mostQuantity}
 use Rattle.figures.proofs.Passed.{passed}
 use Rattle.day.proofs.Keeping.{TradeFields, trade-fields}
 use Rattle.columns.specs.Columns.{accounts}

@@ -1,0 +1,60 @@
+// A market, or a quote of one.
+ghost use mathlib.Core.Path.{_≡_};
+ghost use Rattle.calls.specs.Market.{twoSided, uncrossed, asMinute, isValid, marketHolds, minuteMarketHolds};
+use funding::Terms;
+use funding::none_or_ticked;
+
+// A market, or one side of it: 0 where a side doesn't stand.
+pub struct Market {
+    pub bid: u32,
+    pub offer: u32,
+}
+
+impl Market {
+    fn is_two_sided(self) -> bool
+        ensures { λ r. ⌜ r ≡ twoSided self ⌝ }
+    {
+        (self.bid != 0) & (self.offer != 0)
+    }
+
+    pub fn is_uncrossed(self) -> bool
+        ensures { λ r. ⌜ r ≡ uncrossed self ⌝ }
+    {
+        !((self.bid != 0) & (self.offer != 0)) | (self.bid < self.offer)
+    }
+
+    // This market where both its sides stand, else the other.
+    pub fn as_minute(self, otherwise: Market) -> Market
+        ensures { λ r. ⌜ r ≡ asMinute self otherwise ⌝ }
+    {
+        if self.is_two_sided() { self } else { otherwise }
+    }
+
+    // Whether the minute that ends with this market and this index is valid.
+    pub fn is_valid(self, halted: bool, index: u32, terms: Terms) -> bool
+        ensures { λ r. ⌜ r ≡ isValid terms halted self index ⌝ }
+    {
+        if halted {
+            return false;
+        }
+        if !self.is_two_sided() {
+            return false;
+        }
+        if index == 0 {
+            return false;
+        }
+        funding::within_spread(self.bid, self.offer, terms)
+    }
+
+    pub fn holds(self) -> bool
+        ensures { λ r. ⌜ r ≡ marketHolds self ⌝ }
+    {
+        none_or_ticked(self.bid) & none_or_ticked(self.offer) & self.is_uncrossed()
+    }
+
+    pub fn holds_minute(self) -> bool
+        ensures { λ r. ⌜ r ≡ minuteMarketHolds self ⌝ }
+    {
+        self.holds() & (self.is_two_sided() | ((self.bid == 0) & (self.offer == 0)))
+    }
+}
