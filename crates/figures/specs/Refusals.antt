@@ -3,8 +3,8 @@ use mathlib.Core.{Bool.Bool, Bool.false, Bool.not, Bool.cond, Bool._&&_, Bool._|
 use Prim.Native.Nat.{ℕ}
 use lib.Dec.{leb}
 use Rattle.funding.specs.Price.{isPresent, noneOrPrice, noneOrTicked}
-use Rattle.calls.specs.{declared.Call.Call, Calls.onQuote, Calls.onTrade, Calls.onHalt, Calls.onResume, Calls.onMinuteEnd, Calls.onFix, Calls.onClose}
-use Rattle.calls.specs.{Trade.tradeOutside, Market.uncrossed}
+use Rattle.calls.specs.{declared.Call.Call, Calls.onQuote, Calls.onTrade, Calls.onHalt, Calls.onResume, Calls.onMinuteEnd, Calls.onFix, Calls.onClose, Trade.tradeOutside}
+use Rattle.calls.specs.Market.{uncrossed}
 use Rattle.day.specs.{declared.Day.Day, Day.isFixed, Day.forbidsFix, Day.forbidsMinuteEnd}
 use Rattle.figures.specs.{declared.Figures.Figures, Figures.mostDays, Effects.fixPrice}
 

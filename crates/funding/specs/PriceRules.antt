@@ -1,8 +1,7 @@
 -- What a price is and which rule gives a settlement price, at numbers that a reader checks with a pencil. Proved by computing in proofs/PriceRules.antt.
 use mathlib.Core.{Path._≡_, Bool.true, Bool.false}
 use Prim.Native.Nat.{ℕ}
-use Rattle.funding.specs.{declared.FinalMinute.FinalMinute, declared.Previous.Previous, Price.isPrice, Price.isTicked, Minute.futuresPrice}
-use Rattle.funding.specs.Fixing.{settlementPrice}
+use Rattle.funding.specs.{declared.FinalMinute.FinalMinute, declared.Previous.Previous, Price.isPrice, Price.isTicked, Minute.futuresPrice, Fixing.settlementPrice}
 
 abbrev traded : ℕ → ℕ → FinalMinute
 traded n gross = record { contracts = n; gross = gross }

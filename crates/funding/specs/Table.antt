@@ -3,8 +3,7 @@ use mathlib.Core.{Path._≡_, Bool.Bool, Bool.true, Bool.false, List.List, List.
 use Prim.Native.Nat.{ℕ}
 use lib.{IntN.ℤ, IntN.pos, IntN.negℤ, ListN.length}
 use Rattle.integers.specs.{declared.Tie.the-variants.Even, Lists.Every}
-use Rattle.funding.specs.{Terms.standardTerms, Minute.withinSpread, Minute.basisOf, Minute.Minute, Minute.weightedSum}
-use Rattle.funding.specs.Fixing.{rateOf, clampedTo, amountOf}
+use Rattle.funding.specs.{Terms.standardTerms, Minute.withinSpread, Minute.basisOf, Minute.Minute, Minute.weightedSum, Fixing.rateOf, Fixing.clampedTo, Fixing.amountOf}
 
 pub data Row : Type 0 where
   -- a futures price, an index, and their basis
