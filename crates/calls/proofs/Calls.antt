@@ -4,7 +4,7 @@
 -- Assumes nothing.
 use mathlib.Core.Path.{_≡_, refl, sym, subst}
 use Prim.Native.Nat.{ℕ}
-use Rattle.calls.specs.declared.trade.Trade.{Trade}
+use Rattle.calls.specs.declared.Trade.{Trade}
 use Rattle.calls.specs.declared.Call.the-variants as call
 use Rattle.calls.specs.Calls.{onTrade, onFix, onClose}
 use Rattle.calls.specs.declared.Call.{Call}

@@ -1,6 +1,6 @@
 -- What is said of calls of one kind, and `other` of all others.
 use Prim.Native.Nat.{ℕ}
-use Rattle.calls.specs.declared.{market.Market.Market, trade.Trade.Trade, Call.Call}
+use Rattle.calls.specs.declared.{Market.Market, Trade.Trade, Call.Call}
 use Rattle.calls.specs.declared.Call.the-variants as call
 
 module _ {A : Type 0} where

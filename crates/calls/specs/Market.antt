@@ -3,7 +3,7 @@ use mathlib.Core.Bool.{_&&_, Bool, cond, not, _||_}
 use Prim.Native.Nat.{ℕ}
 use lib.Dec.{eqb, ltb}
 use Rattle.funding.specs.{declared.Terms.Terms, Price.isPresent, Price.noneOrTicked, Minute.withinSpread}
-use Rattle.calls.specs.declared.market.Market.{Market}
+use Rattle.calls.specs.declared.Market.{Market}
 
 abbrev pub noMarket : Market
 noMarket = record { bid = 0; offer = 0 }

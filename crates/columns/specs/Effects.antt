@@ -2,7 +2,7 @@
 use mathlib.Core.List.{List}
 use Prim.Native.Nat.{ℕ}
 use lib.IntN.{_*ℤ_, _+ℤ_, _-ℤ_, negℤ, pos, ℤ}
-use Rattle.calls.specs.declared.trade.Trade.{Trade}
+use Rattle.calls.specs.declared.Trade.{Trade}
 use Rattle.figures.specs.declared.Figures.{Figures}
 use Rattle.columns.specs.Columns.{entry, raise, raiseCount}
 

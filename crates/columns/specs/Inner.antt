@@ -3,7 +3,7 @@ use mathlib.Core.{List.List, Bool.true, Path._≡_}
 use Prim.Native.Nat.{ℕ, _*_, _+_, _<_, _^_, _≤_}
 use lib.{ListN.length, IntN.natAbs, IntN.ℤ}
 use Rattle.funding.specs.Price.{largestPrice}
-use Rattle.calls.specs.{declared.trade.Trade.Trade, Trade.mostQuantity}
+use Rattle.calls.specs.{declared.Trade.Trade, Trade.mostQuantity}
 use Rattle.figures.specs.{declared.Figures.Figures, Figures.figuresHold, Figures.mostDays}
 use Rattle.columns.specs.{Columns.accounts, Columns.countAt, Columns.entry, Limits.mostPosition, Limits.mostPosting, Limits.mostVolume}
 

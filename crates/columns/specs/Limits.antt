@@ -4,7 +4,7 @@ use Prim.Native.Nat.{ℕ, _*_}
 use lib.{Dec.leb, Dec.ltb, IntN.ℤ}
 use Rattle.integers.specs.Size.{within}
 use Rattle.funding.specs.Price.{largestPrice}
-use Rattle.calls.specs.declared.trade.Trade.{Trade}
+use Rattle.calls.specs.declared.Trade.{Trade}
 use Rattle.figures.specs.Refusals.{Accounts}
 use Rattle.columns.specs.{Columns.countAt, Columns.entry, Effects.counted, Effects.exchanged}
 

@@ -10,7 +10,7 @@ ghost use Rattle.columns.specs.Inner.{mostEntry, mostMoved, Exchangeable
 use crate::ACCOUNTS;
 use crate::MOST_POSITION;
 use crate::MOST_VOLUME;
-use calls::trade::Trade;
+use calls::Trade;
 
 // What the v of each account of a trade rises by: both sides where they are one account.
 fn counts(t: Trade) -> u64

@@ -16,7 +16,7 @@ use Rattle.funding.specs.declared.FinalMinute.{FinalMinute}
 use Rattle.funding.specs.Price.{leastPrice, largestPrice, noneOrPrice, noneOrTicked}
 use Rattle.funding.specs.Minute.{weightedLimit}
 use Rattle.funding.proofs.Prices.{ticked-price}
-use Rattle.calls.specs.declared.market.Market.{Market}
+use Rattle.calls.specs.declared.Market.{Market}
 use Rattle.calls.specs.Market.{twoSided, uncrossed, marketHolds, minuteMarketHolds}
 use Rattle.day.specs.declared.Day.{Day}
 use Rattle.day.specs.Day.{dayLength}

@@ -20,8 +20,8 @@ use Rattle.funding.specs.Minute.{withinSpread, futuresPrice, basisOf, accrued, 
 use Rattle.funding.specs.declared.Terms.{Terms}
 use Rattle.funding.proofs.Prices.{price-to, the-price}
 use Rattle.funding.proofs.Bounds.{basis-size, futures-is-price, accrued-size}
-use Rattle.calls.specs.declared.market.Market.{Market}
-use Rattle.calls.specs.declared.trade.Trade.{Trade}
+use Rattle.calls.specs.declared.Market.{Market}
+use Rattle.calls.specs.declared.Trade.{Trade}
 use Rattle.calls.specs.Market.{noMarket, twoSided, asMinute, isValid, marketHolds, minuteMarketHolds}
 use Rattle.calls.specs.Trade.{simple, block, mostQuantity, leastBlock, tradeOutside}
 use Rattle.day.specs.declared.Day.{Day}

@@ -3,8 +3,8 @@ use mathlib.Core.Bool.{Bool, _&&_, _||_}
 use Prim.Native.Nat.{ℕ, _+_, _*_}
 use lib.{Dec.leb, Dec.ltb, Dec.eqb, IntN.pos, ListN.length}
 use Rattle.funding.specs.{declared.FinalMinute.FinalMinute, Price.isPresent, Minute.Minute, Minute.futuresPrice, Minute.mostMinutes}
-use Rattle.calls.specs.{declared.market.Market.Market, declared.trade.Trade.Trade, Market.noMarket, Trade.simple}
-use Rattle.day.specs.declared.{Day.Day, markets.Markets.Markets}
+use Rattle.calls.specs.{declared.Market.Market, declared.Trade.Trade, Market.noMarket, Trade.simple}
+use Rattle.day.specs.declared.{Day.Day, Markets.Markets}
 
 -- its minutes: document 01's on every day
 abbrev pub dayLength : Day → ℕ

@@ -3,9 +3,9 @@ use mathlib.Core.Bool.{Bool, cond}
 use Prim.Native.Nat.{ℕ, _+_}
 use lib.IntN.{ℤ}
 use Rattle.funding.specs.Minute.{basisOf, accrued}
-use Rattle.calls.specs.{declared.market.Market.Market, declared.trade.Trade.Trade, Market.noMarket, Market.asMinute}
+use Rattle.calls.specs.{declared.Market.Market, declared.Trade.Trade, Market.noMarket, Market.asMinute}
 use Rattle.day.specs.declared.{Minutes.Minutes, Trades.Trades, Fixed.Fixed, Day.Day}
-use Rattle.day.specs.{Day.dayLength, Day.inLastMinute, Day.isFinal, Day.withTrade, Day.minuteOf, declared.markets.Markets.Markets}
+use Rattle.day.specs.{Day.dayLength, Day.inLastMinute, Day.isFinal, Day.withTrade, Day.minuteOf, declared.Markets.Markets}
 
 -- ---- a part of a day, changed
 

@@ -5,7 +5,7 @@ use lib.Dec.{leb, eqb}
 use Rattle.integers.specs.Size.{within}
 use Rattle.funding.specs.{declared.FinalMinute.FinalMinute, Price.leastPrice, Price.largestPrice, Price.noneOrPrice, Minute.weightedLimit}
 use Rattle.calls.specs.Market.{marketHolds, minuteMarketHolds}
-use Rattle.day.specs.{declared.Day.Day, Day.dayLength, Day.isFixed, declared.markets.Markets.Markets}
+use Rattle.day.specs.{declared.Day.Day, Day.dayLength, Day.isFixed, declared.Markets.Markets}
 
 -- 01: "ended minutes 0 to 1,320; valid count k at most the ended minutes; weighted sum S at most 9,999 × 10^9 × k(k+1)/2 in size"
 abbrev pub minutesHold : Day → Bool

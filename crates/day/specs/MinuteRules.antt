@@ -3,7 +3,7 @@
 use mathlib.Core.{Path._≡_, Bool.true, Bool.false}
 use Prim.Native.Nat.{ℕ}
 use Rattle.funding.specs.{Terms.standardTerms, Minute.mostMinutes}
-use Rattle.calls.specs.{declared.market.Market.Market, declared.trade.Trade.Trade, Market.noMarket, Market.asMinute, Market.isValid}
+use Rattle.calls.specs.{declared.Market.Market, declared.Trade.Trade, Market.noMarket, Market.asMinute, Market.isValid}
 use Rattle.day.specs.Day.{isFinal}
 
 abbrev market : ℕ → ℕ → Market

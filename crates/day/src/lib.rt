@@ -4,20 +4,17 @@ ghost use mathlib.Core.Bool.{cond};
 ghost use Prim.Native.Nat.{_+_, _≤_};
 ghost use Rattle.funding.specs.Minute.{mostMinutes};
 ghost use Rattle.day.specs.Day.{dayLength, noMarkets, emptyDay, inLastMinute, forbidsMinuteEnd, forbidsFix};
-ghost use Rattle.day.specs.Limits.{minutesHold, dayHolds};
+ghost use Rattle.day.specs.Limits.{marketsHold, minutesHold, dayHolds};
 ghost use Rattle.day.specs.Effects.{withMarkets, withMinutes, withTrades, withFixed, weightedAfter, minuteEnded, nextMinute};
 ghost use Rattle.day.specs.Effects.{quoted as Effects·quoted};
 ghost use Rattle.day.specs.Effects.{traded as Effects·traded};
 ghost use Rattle.day.specs.Inner.{RoomForTrade, Endable};
-use calls::market::Market;
-use calls::trade::Trade;
+use calls::Market;
+use calls::Trade;
 use funding::FinalMinute;
 use funding::MOST_MINUTES;
 use funding::none_or_price;
 use integers::is_within;
-use markets::Markets;
-
-pub mod markets;
 
 pub const MOST_AMOUNT: u64 = 10_000;
 
@@ -30,6 +27,12 @@ pub struct Minutes {
     pub weighted: i64,
     // the u of the last minute
     pub index: u32,
+}
+
+// What quotes and halts set: the standing market and the minute's market.
+pub struct Markets {
+    pub standing: Market,
+    pub minute: Market,
 }
 
 // What trades set.
@@ -52,6 +55,41 @@ pub struct Day {
     pub markets: Markets,
     pub trades: Trades,
     pub fixed: Fixed,
+}
+
+impl Markets {
+    pub(crate) fn none() -> Self
+        ensures { λ r. ⌜ r ≡ noMarkets ⌝ }
+    {
+        Self {
+            standing: Market { bid: 0, offer: 0 },
+            minute: Market { bid: 0, offer: 0 },
+        }
+    }
+
+    // Whether both are within their limits.
+    pub(crate) fn holds(self) -> bool
+        ensures { λ r. ⌜ r ≡ marketsHold self ⌝ }
+    {
+        self.standing.holds() & self.minute.holds_minute()
+    }
+
+    pub(crate) fn quoted(self, market: Market) -> Markets
+        ensures { λ r. ⌜ r ≡ Effects·quoted self market ⌝ }
+    {
+        Markets {
+            standing: market,
+            minute: market.as_minute(self.minute),
+        }
+    }
+
+    pub(crate) fn next_minute(self) -> Markets
+        ensures { λ r. ⌜ r ≡ nextMinute self ⌝ }
+    {
+        let mut after = self;
+        after.minute = self.standing.as_minute(Market { bid: 0, offer: 0 });
+        after
+    }
 }
 
 impl Day {

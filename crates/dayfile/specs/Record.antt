@@ -3,7 +3,7 @@ use Prim.Native.Nat.{ℕ, _+_, _*_, _≤_}
 use mathlib.Core.{List.List, Bool.Bool, Bool.false, Bool.not, Bool.cond, Bool._&&_, Bool._||_}
 use lib.{ListN.length, ListN.getD, Dec.ltb, Dec.leb, Dec.eqb}
 use Rattle.calls.specs.declared.Call.the-variants as call
-use Rattle.calls.specs.declared.{market.Market.Market, trade.Trade.Trade, Call.Call}
+use Rattle.calls.specs.declared.{Market.Market, Trade.Trade, Call.Call}
 use Rattle.dayfile.specs.declared.{Tag.Tag, Tagged.Tagged, Read.Read}
 use Rattle.dayfile.specs.declared.Tag.the-variants as tag
 use Rattle.dayfile.specs.declared.Tagged.the-variants as tagged

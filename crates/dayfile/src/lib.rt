@@ -5,8 +5,8 @@ ghost use lib.ListN.{length};
 ghost use Rattle.dayfile.specs.Record.{byteAt, twoBytes, fourBytes, tagOf, bodyLength, tradeAt, quoteAt, callOf};
 ghost use Rattle.dayfile.specs.Record.{statedLength, complete, readAt, byteOf, isRecordAt, readNumber, recordRefusal};
 use calls::Call;
-use calls::market::Market;
-use calls::trade::Trade;
+use calls::Market;
+use calls::Trade;
 
 // The bytes of a tag and a length.
 pub const HEAD: usize = 3;

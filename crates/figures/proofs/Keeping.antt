@@ -21,8 +21,8 @@ use Rattle.funding.proofs.Bounds.{clamped-size, amount-size, settlement-is-pric
 use Rattle.day.specs.declared.Day.{Day}
 use Rattle.figures.specs.declared.Figures.{Figures}
 use Rattle.calls.specs.declared.Call.the-variants as call
-use Rattle.calls.specs.declared.market.Market.{Market}
-use Rattle.calls.specs.declared.trade.Trade.{Trade}
+use Rattle.calls.specs.declared.Market.{Market}
+use Rattle.calls.specs.declared.Trade.{Trade}
 use Rattle.calls.specs.declared.Call.{Call}
 use Rattle.calls.specs.Market.{noMarket, asMinute, uncrossed, marketHolds, minuteMarketHolds}
 use Rattle.day.specs.Day.{dayLength, isFixed}

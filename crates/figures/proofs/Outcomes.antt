@@ -7,7 +7,7 @@ use Prim.Native.Nat.{ℕ}
 use borrow.Author.Tests.{ne-eqb}
 use Rattle.calls.specs.declared.Call.{Call}
 use Rattle.figures.specs.declared.Figures.{Figures}
-use Rattle.figures.specs.declared.outcome.Outcome.{Outcome}
+use Rattle.figures.specs.declared.Outcome.{Outcome}
 use Rattle.figures.specs.Effects.{figuresAfter, fixingOf}
 use Rattle.figures.specs.Refusals.{figuresRefusal}
 use Rattle.figures.specs.Outcome.{numbered, outcome}

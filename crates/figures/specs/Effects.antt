@@ -5,7 +5,7 @@ use lib.IntN.{ℤ, pos}
 use Rattle.funding.specs.Fixing.{rateOf, clampedTo, amountOf, settlementPrice}
 use Rattle.day.specs.{declared.Fixed.Fixed, declared.Day.Day, Day.noMarkets, Day.emptyDay}
 use Rattle.day.specs.Effects.{withMarkets, withMinutes, withTrades, withFixed, quoted, traded, minuteEnded, nextMinute}
-use Rattle.figures.specs.{declared.Figures.Figures, declared.outcome.Fixing.Fixing, Figures.termsOn, Figures.tieOn}
+use Rattle.figures.specs.{declared.Figures.Figures, declared.Fixing.Fixing, Figures.termsOn, Figures.tieOn}
 use Rattle.calls.specs.declared.Call.the-variants as call
 use Rattle.calls.specs.{declared.Call.Call, Calls.onFix, Market.isValid}
 

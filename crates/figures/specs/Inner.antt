@@ -2,7 +2,7 @@
 use Prim.Native.Nat.{_*_, _≤_}
 use Rattle.funding.specs.Price.{largestPrice}
 use Rattle.day.specs.declared.Day.{Day}
-use Rattle.figures.specs.{declared.Figures.Figures, declared.outcome.Fixing.Fixing, declared.outcome.Outcome.Outcome, Figures.tenth, Effects.withDay}
+use Rattle.figures.specs.{declared.Figures.Figures, declared.Fixing.Fixing, declared.Outcome.Outcome, Figures.tenth, Effects.withDay}
 
 -- the figures of a fix fit
 pub record Fixable (f : Figures) : Type 0 where

@@ -4,7 +4,7 @@ use Prim.Native.Nat.{ℕ}
 use lib.Dec.{eqb}
 use Rattle.calls.specs.declared.Call.{Call}
 use Rattle.day.specs.Limits.{finalHolds}
-use Rattle.figures.specs.{declared.Figures.Figures, declared.outcome.Outcome.Outcome, Effects.noFixing, Effects.figuresAfter, Effects.fixingOf}
+use Rattle.figures.specs.{declared.Figures.Figures, declared.Outcome.Outcome, Effects.noFixing, Effects.figuresAfter, Effects.fixingOf}
 use Rattle.figures.specs.{Figures.figuresHold, Figures.freshFigures, Figures.isSize, Refusals.figuresRefusal}
 
 -- figures with a refusal's number, 0 for none, and no fix

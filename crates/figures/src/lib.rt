@@ -4,25 +4,22 @@ ghost use mathlib.Core.Bool.{true};
 ghost use mathlib.Core.List.{[], _∷_};
 ghost use Prim.Native.Nat.{_≤_};
 ghost use Rattle.figures.specs.Figures.{termsOn, tieOn, mostDays, figuresHold};
-ghost use Rattle.figures.specs.Effects.{fixPrice, fixingAt, figuresAfter};
+ghost use Rattle.figures.specs.Effects.{noFixing, fixPrice, fixingAt, figuresAfter};
 ghost use Rattle.figures.specs.Refusals.{isFull, firstMet, figuresRefusal};
 ghost use Rattle.figures.specs.Outcome.{numbered, outcome};
 ghost use Rattle.day.specs.Inner.{RoomForTrade};
 ghost use Rattle.figures.specs.Inner.{Fixable, changed};
 use calls::Call;
-use calls::market::Market;
-use calls::trade::Trade;
+use calls::Market;
+use calls::Trade;
 use day::Day;
 use funding::Previous;
 use funding::Terms;
 use funding::none_or_price;
 use funding::none_or_ticked;
 use integers::Tie;
-use outcome::Fixing;
-use outcome::Outcome;
 use product::Product;
 
-pub mod outcome;
 pub mod product;
 
 pub const MOST_DAYS: u32 = 2_600;
@@ -35,6 +32,49 @@ pub struct Figures {
     pub halted: bool,
     pub previous: Previous,
     pub day: Day,
+}
+
+// What a fix prints; zeros for any other call.
+pub struct Fixing {
+    pub price: u32,
+    // the clamped rate
+    pub rate: i64,
+    pub amount: i64,
+    // valid count k
+    pub valid: u32,
+}
+
+// The refusal's number and the same figures, or 0 and the new ones. The order of the fields is the one with which a run is
+// fastest (`make speed`).
+pub struct Outcome {
+    pub figures: Figures,
+    pub fixing: Fixing,
+    pub code: u8,
+}
+
+impl Fixing {
+    pub fn none() -> Self
+        ensures { λ r. ⌜ r ≡ noFixing ⌝ }
+    {
+        Self {
+            price: 0,
+            rate: 0,
+            amount: 0,
+            valid: 0,
+        }
+    }
+}
+
+impl Outcome {
+    pub fn numbered(figures: Figures, code: u8) -> Self
+        ensures { λ r. ⌜ r ≡ numbered figures code ⌝ }
+    {
+        Self {
+            figures,
+            fixing: Fixing::none(),
+            code,
+        }
+    }
 }
 
 impl Figures {

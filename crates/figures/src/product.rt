@@ -4,7 +4,7 @@ ghost use Rattle.funding.specs.Terms.{standardTerms};
 ghost use Rattle.figures.specs.Figures.{hundredth, tenth, isSize, freshFigures};
 ghost use Rattle.figures.specs.Outcome.{numbered, opened};
 use crate::Figures;
-use crate::outcome::Outcome;
+use crate::Outcome;
 use day::Day;
 use funding::Previous;
 use funding::Terms;

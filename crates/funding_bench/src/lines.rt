@@ -1,6 +1,6 @@
 // The lines of the printout.
 use columns::ACCOUNTS;
-use figures::outcome::Fixing;
+use figures::Fixing;
 use ledger::Book;
 use libc::STDOUT_FILENO;
 use printout::Printed;

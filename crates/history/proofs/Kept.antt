@@ -15,7 +15,7 @@ use Rattle.columns.specs.Columns.{table, raise, raiseCount}
 use Rattle.day.specs.declared.Day.{Day}
 use Rattle.figures.specs.declared.Figures.{Figures}
 use Rattle.calls.specs.declared.Call.the-variants as call
-use Rattle.calls.specs.declared.trade.Trade.{Trade}
+use Rattle.calls.specs.declared.Trade.{Trade}
 use Rattle.calls.specs.declared.Call.{Call}
 use Rattle.calls.proofs.Calls.{TradeOr, CloseOr, trade, close, trade-or, close-or}
 use Rattle.day.specs.Day.{isFinal, minuteOf}

@@ -5,7 +5,7 @@ use Prim.Native.Nat.{ℕ, _<_}
 use lib.IntN.{pos, negℤ, _+ℤ_, _-ℤ_, _*ℤ_, +ℤ-invr}
 use Rattle.integers.specs.Lists.{Every, sum}
 use Rattle.calls.specs.declared.Call.the-variants as call
-use Rattle.calls.specs.declared.trade.Trade.{Trade}
+use Rattle.calls.specs.declared.Trade.{Trade}
 use Rattle.calls.proofs.Calls.{on-trade-is}
 use Rattle.ledger.proofs.KeepingTrade.{in-range}
 use Rattle.history.specs.History.{History, closings, closedPart, trades}

@@ -5,7 +5,7 @@ use Prim.Native.Nat.{ℕ}
 use lib.ListN.{length}
 use Rattle.integers.specs.{declared.Tie.Tie, declared.Tie.the-variants.Even, Lists.keepIf}
 use Rattle.funding.specs.{declared.Terms.Terms, Terms.standardTerms, Minute.Minute, Minute.mostMinutes}
-use Rattle.calls.specs.declared.{market.Market.Market, trade.Trade.Trade, Call.Call}
+use Rattle.calls.specs.declared.{Market.Market, Trade.Trade, Call.Call}
 use Rattle.calls.specs.Calls.{onQuote, onTrade, onHalt, onResume, onMinuteEnd, onFix, onClose}
 use Rattle.calls.specs.Market.{noMarket, asMinute, isValid}
 use Rattle.day.specs.Day.{isFinal, minuteOf}

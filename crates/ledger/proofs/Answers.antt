@@ -11,7 +11,7 @@ use Rattle.figures.specs.Outcome.{numbered}
 use Rattle.ledger.specs.Effects.{effect}
 use Rattle.ledger.specs.Step.{answerBy}
 use Rattle.ledger.specs.Inner.{answerOf}
-use Rattle.figures.specs.declared.outcome.Outcome.{Outcome}
+use Rattle.figures.specs.declared.Outcome.{Outcome}
 use Rattle.ledger.specs.declared.Book.{Book}
 use Rattle.ledger.specs.declared.Answer.{Answer}
 

@@ -17,7 +17,7 @@ use Rattle.integers.proofs.Order.{abs-neg, abs-add}
 use Rattle.integers.proofs.Tests.{tests, by-test, each}
 use Rattle.funding.specs.Price.{largestPrice}
 use Rattle.calls.specs.declared.Call.the-variants as call
-use Rattle.calls.specs.declared.trade.Trade.{Trade}
+use Rattle.calls.specs.declared.Trade.{Trade}
 use Rattle.day.specs.Day.{dayLength, isFinal, withTrade}
 use Rattle.figures.specs.Effects.{figuresAfter}
 use Rattle.day.proofs.Held.{HeldFinal}

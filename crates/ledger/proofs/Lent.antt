@@ -12,7 +12,7 @@ use lib.Dec.{eqb}
 use lib.IntN.{ℤ, natAbs}
 use lib.ListN.{length}
 use Rattle.funding.specs.Price.{largestPrice}
-use Rattle.calls.specs.declared.trade.Trade.{Trade}
+use Rattle.calls.specs.declared.Trade.{Trade}
 use Rattle.calls.specs.declared.Call.{Call}
 use Rattle.figures.specs.Effects.{figuresAfter}
 use Rattle.figures.specs.Refusals.{firstMet, figuresRefusal}
@@ -27,7 +27,7 @@ use Rattle.ledger.specs.Refusals.{sentencesOf, refusal}
 use Rattle.ledger.specs.Step.{step}
 use Rattle.ledger.specs.Inner.{bookOf, answerOf, answered, Tradable, WithinLimits}
 use Rattle.figures.specs.declared.Figures.{Figures}
-use Rattle.figures.specs.declared.outcome.Outcome.{Outcome}
+use Rattle.figures.specs.declared.Outcome.{Outcome}
 use Rattle.ledger.specs.declared.Book.{Book}
 use Rattle.ledger.proofs.Held.{Held, held, contracts-most}
 

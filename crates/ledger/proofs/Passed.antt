@@ -12,7 +12,7 @@ use borrow.Author.Tests.{not-false}
 use Rattle.calls.specs.declared.Call.the-variants as call
 use Rattle.calls.specs.Calls.{onTrade}
 use Rattle.calls.specs.Trade.{tradeOutside}
-use Rattle.calls.specs.declared.trade.Trade.{Trade}
+use Rattle.calls.specs.declared.Trade.{Trade}
 use Rattle.calls.specs.declared.Call.{Call}
 use Rattle.figures.specs.Refusals.{notAllowed, Accounts, noAccounts, sentences, firstMet, figuresRefusal}
 use Rattle.figures.proofs.Passed.{unmet, never-met}

@@ -1,7 +1,7 @@
 -- What an accepted call does to a book: document 01, "A trade date, call by call".
 use Prim.Native.Nat.{ℕ, _*_}
 use lib.{IntN.ℤ, IntN.pos, ListN.replicate}
-use Rattle.calls.specs.{Calls.onTrade, Calls.onClose, declared.trade.Trade.Trade, declared.Call.Call}
+use Rattle.calls.specs.{Calls.onTrade, Calls.onClose, declared.Trade.Trade, declared.Call.Call}
 use Rattle.columns.specs.{Columns.table, Effects.counted, Effects.exchanged, Effects.posted}
 use Rattle.figures.specs.{Effects.figuresAfter, declared.Figures.Figures}
 use Rattle.ledger.specs.declared.Book.{Book}

@@ -5,8 +5,8 @@ use Prim.Native.Nat.{ℕ, _+_, _*_, _<_, _^_}
 use lib.IntN.{ℤ}
 use Rattle.funding.specs.Price.{largestPrice}
 use Rattle.calls.specs.declared.Call.the-variants as call
-use Rattle.calls.specs.{Trade.mostQuantity, declared.trade.Trade.Trade, declared.Call.Call}
-use Rattle.figures.specs.{Refusals.firstMet, declared.Figures.Figures, declared.outcome.Outcome.Outcome}
+use Rattle.calls.specs.{Trade.mostQuantity, declared.Trade.Trade, declared.Call.Call}
+use Rattle.figures.specs.{Refusals.firstMet, declared.Figures.Figures, declared.Outcome.Outcome}
 use Rattle.columns.specs.{Limits.mostPosition, Inner.Countable, Inner.Exchangeable, Inner.mostEntry}
 use Rattle.ledger.specs.{Refusals.sentencesOf, Refusals.withinLimits, Step.answerBy, Keeping.Shaped, declared.Book.Book, declared.Answer.Answer}
 

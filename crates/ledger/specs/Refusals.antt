@@ -3,7 +3,7 @@ use mathlib.Core.{Bool.Bool, Bool.not, Bool._&&_, List.List, List._∷_}
 use Prim.Native.Nat.{ℕ}
 use lib.IntN.{ℤ}
 use Rattle.calls.specs.declared.Call.the-variants as call
-use Rattle.calls.specs.{Calls.onTrade, declared.trade.Trade.Trade, declared.Call.Call}
+use Rattle.calls.specs.{Calls.onTrade, declared.Trade.Trade, declared.Call.Call}
 use Rattle.day.specs.Limits.{finalHolds}
 use Rattle.figures.specs.{Refusals.noAccounts, Refusals.sentences, Refusals.firstMet, Figures.figuresHold, declared.Figures.Figures}
 use Rattle.columns.specs.{Columns.countAt, Columns.allBelow, Columns.sumBelow, Limits.accountAt, Limits.accountsOf}

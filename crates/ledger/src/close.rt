@@ -8,7 +8,7 @@ use calls::Call;
 use columns::ACCOUNTS;
 use columns::posting::post;
 use figures::Figures;
-use figures::outcome::Outcome;
+use figures::Outcome;
 
 pub fn close_on(
     figures: Figures,

@@ -11,7 +11,7 @@ use crate::trading::trade_on;
 use calls::Call;
 use columns::ACCOUNTS;
 use figures::Figures;
-use figures::outcome::Outcome;
+use figures::Outcome;
 
 // The inner layer: a call on a book within its limits. A run uses it, so that it neither copies the book nor scans its limits
 // at every call. What it hands back is within its limits again (specs/Keeping.antt).

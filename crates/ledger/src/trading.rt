@@ -5,14 +5,14 @@ ghost use Rattle.columns.specs.Limits.{mostPosition};
 ghost use Rattle.columns.specs.Inner.{Exchangeable, Countable};
 ghost use Rattle.ledger.specs.Refusals.{tradeRefusal};
 ghost use Rattle.ledger.specs.Inner.{TradeAnswered, Tradable};
-use calls::trade::Trade;
+use calls::Trade;
 use columns::ACCOUNTS;
 use columns::trading::count;
 use columns::trading::exchange;
 use columns::trading::position_stays;
 use columns::trading::volume_stays;
 use figures::Figures;
-use figures::outcome::Outcome;
+use figures::Outcome;
 
 // The number of a trade's refusal, 0 for none.
 fn trade_code(

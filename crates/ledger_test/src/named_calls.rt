@@ -2,7 +2,7 @@
 use crate::fields::FIELDS;
 use crate::numbers::HALF;
 use crate::numbers::Numbers;
-use calls::trade::Trade;
+use calls::Trade;
 use ledger::Answer;
 use ledger::Book;
 

@@ -20,7 +20,7 @@ use crate::words::print_after;
 use crate::words::print_word;
 use crate::words::row_numbers;
 use columns::ACCOUNTS;
-use figures::outcome::Fixing;
+use figures::Fixing;
 use ledger::Book;
 
 // Nothing where all of it is 0.

@@ -4,7 +4,7 @@ ghost use Rattle.ledger.specs.Step.{step};
 ghost use Rattle.printout.specs.Printed.{printedNumber, printedOpening, printedBy, played, notPlayed, playedRecord, isPrinted};
 use calls::Call;
 use dayfile::Read;
-use figures::outcome::Fixing;
+use figures::Fixing;
 use ledger::Answer;
 use ledger::Book;
 

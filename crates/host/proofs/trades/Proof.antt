@@ -14,7 +14,7 @@ use Rattle.dayfile.specs.declared.Tag.the-variants as tag
 use Rattle.dayfile.specs.Record.{tradeAt, isRecordAt}
 use Rattle.ledger.specs.declared.Book.{Book}
 use Rattle.calls.specs.declared.Call.the-variants as call
-use Rattle.calls.specs.declared.trade.Trade.{Trade}
+use Rattle.calls.specs.declared.Trade.{Trade}
 use Rattle.calls.specs.declared.Call.{Call}
 use Rattle.columns.specs.Columns.{accounts}
 use Rattle.ledger.specs.Inner.{bookOf}

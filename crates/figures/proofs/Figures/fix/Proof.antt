@@ -4,7 +4,7 @@ use mir.Syntax.{w64}
 use mir.Val.{SFits}
 use mir.Facts.{toZ-ofZ}
 use borrow.Author.Needs.{needs}
-use Rattle.figures.specs.declared.outcome.Fixing.{Fixing}
+use Rattle.figures.specs.declared.Fixing.{Fixing}
 use Rattle.figures.specs.Effects.{figuresAfter, fixingOf}
 use Rattle.calls.specs.declared.Call.the-variants as call
 use Rattle.figures.proofs.Outcomes.{refused-is, accepted-is}

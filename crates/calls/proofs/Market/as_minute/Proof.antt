@@ -1,7 +1,7 @@
--- `calls::market::Market::as_minute` meets its contract. Assumes nothing.
+-- `calls::Market::as_minute` meets its contract. Assumes nothing.
 use borrow.Author.Needs.{needs}
-use Rattle.calls.proofs.market.Market.as_minute.Statement.{statement}
-use Rattle.calls.proofs.market.Market.as_minute.Tie as tie
+use Rattle.calls.proofs.Market.as_minute.Statement.{statement}
+use Rattle.calls.proofs.Market.as_minute.Tie as tie
 
 is-two-sided-requires : tie.Need-is-two-sided-requires
 is-two-sided-requires c κs = search needs

@@ -1,7 +1,7 @@
--- `calls::market::Market::holds` meets its contract. Assumes nothing.
+-- `calls::Market::holds` meets its contract. Assumes nothing.
 use borrow.Author.Needs.{needs}
-use Rattle.calls.proofs.market.Market.holds.Statement.{statement}
-use Rattle.calls.proofs.market.Market.holds.Tie as tie
+use Rattle.calls.proofs.Market.holds.Statement.{statement}
+use Rattle.calls.proofs.Market.holds.Tie as tie
 
 none-or-ticked-requires : tie.Need-none-or-ticked-requires
 none-or-ticked-requires c κs = search needs

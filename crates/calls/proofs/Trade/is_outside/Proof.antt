@@ -1,14 +1,14 @@
--- `calls::trade::Trade::is_outside` meets its contract, test by test. Assumes nothing.
+-- `calls::Trade::is_outside` meets its contract, test by test. Assumes nothing.
 use mathlib.Core.Path.{_≡_, refl, sym, _∙_}
 use mathlib.Core.Bool.{Bool, true, false, not, _&&_, _||_, or-true, or-false}
 use lib.Dec.{ltb, eqb}
 use borrow.Author.Tests.{ne-eqb, not-true, not-false}
 use borrow.Author.Needs.{needs}
 use Rattle.funding.specs.Price.{isPrice, isTicked}
-use Rattle.calls.specs.declared.trade.Trade.{Trade}
+use Rattle.calls.specs.declared.Trade.{Trade}
 use Rattle.calls.specs.Trade.{simple, block, mostQuantity, leastBlock, tradeOutside}
-use Rattle.calls.proofs.trade.Trade.is_outside.Statement.{statement}
-use Rattle.calls.proofs.trade.Trade.is_outside.Tie as tie
+use Rattle.calls.proofs.Trade.is_outside.Statement.{statement}
+use Rattle.calls.proofs.Trade.is_outside.Tie as tie
 
 -- the two tests of the quantity, among the six
 met : (k a b r s t : Bool) → a || b ≡ true → k || a || b || r || s || t ≡ true

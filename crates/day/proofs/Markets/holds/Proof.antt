@@ -1,7 +1,7 @@
--- `day::markets::Markets::holds` meets its contract. Assumes nothing.
+-- `day::Markets::holds` meets its contract. Assumes nothing.
 use borrow.Author.Needs.{needs}
-use Rattle.day.proofs.markets.Markets.holds.Statement.{statement}
-use Rattle.day.proofs.markets.Markets.holds.Tie as tie
+use Rattle.day.proofs.Markets.holds.Statement.{statement}
+use Rattle.day.proofs.Markets.holds.Tie as tie
 
 holds-requires : tie.Need-holds-requires
 holds-requires c κs = search needs

@@ -1,7 +1,7 @@
--- `figures::outcome::Outcome::numbered` meets its contract. Assumes nothing.
+-- `figures::Outcome::numbered` meets its contract. Assumes nothing.
 use borrow.Author.Needs.{needs}
-use Rattle.figures.proofs.outcome.Outcome.numbered.Statement.{statement}
-use Rattle.figures.proofs.outcome.Outcome.numbered.Tie as tie
+use Rattle.figures.proofs.Outcome.numbered.Statement.{statement}
+use Rattle.figures.proofs.Outcome.numbered.Tie as tie
 
 none-requires : tie.Need-none-requires
 none-requires c κs = search needs

@@ -1,11 +1,11 @@
--- `calls::market::Market::is_valid` meets its contract, test by test. Assumes nothing.
+-- `calls::Market::is_valid` meets its contract, test by test. Assumes nothing.
 use mathlib.Core.Path.{_≡_, sym, _∙_}
 use mathlib.Core.Bool.{true}
 use borrow.Author.Tests.{eq-eqb, ne-eqb, not-true, not-false}
 use borrow.Author.Needs.{needs}
 use Rattle.calls.specs.Market.{twoSided}
-use Rattle.calls.proofs.market.Market.is_valid.Statement.{statement}
-use Rattle.calls.proofs.market.Market.is_valid.Tie as tie
+use Rattle.calls.proofs.Market.is_valid.Statement.{statement}
+use Rattle.calls.proofs.Market.is_valid.Tie as tie
 
 -- both sides stand
 two-sided : (c : tie.Else2) → twoSided (c .before .before .before .args .self) ≡ true

@@ -1,7 +1,7 @@
--- `calls::market::Market::holds_minute` meets its contract. Assumes nothing.
+-- `calls::Market::holds_minute` meets its contract. Assumes nothing.
 use borrow.Author.Needs.{needs}
-use Rattle.calls.proofs.market.Market.holds_minute.Statement.{statement}
-use Rattle.calls.proofs.market.Market.holds_minute.Tie as tie
+use Rattle.calls.proofs.Market.holds_minute.Statement.{statement}
+use Rattle.calls.proofs.Market.holds_minute.Tie as tie
 
 holds-requires : tie.Need-holds-requires
 holds-requires c κs = search needs

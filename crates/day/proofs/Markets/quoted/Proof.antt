@@ -1,7 +1,7 @@
--- `day::markets::Markets::quoted` meets its contract. Assumes nothing.
+-- `day::Markets::quoted` meets its contract. Assumes nothing.
 use borrow.Author.Needs.{needs}
-use Rattle.day.proofs.markets.Markets.quoted.Statement.{statement}
-use Rattle.day.proofs.markets.Markets.quoted.Tie as tie
+use Rattle.day.proofs.Markets.quoted.Statement.{statement}
+use Rattle.day.proofs.Markets.quoted.Tie as tie
 
 as-minute-requires : tie.Need-as-minute-requires
 as-minute-requires c κs = search needs
