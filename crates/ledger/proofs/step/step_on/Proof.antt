@@ -27,13 +27,18 @@ quote-requires c κs = search needs
 enum-known-call-2 : tie.Need-enum-known-call-2
 enum-known-call-2 c = search needs
 
+-- an account is one byte
+buyer-fits : (c : tie.After-known-told2) → Fits w8 (c .before .call2 .given .0 .0 .buyer)
+buyer-fits c = search needs
+
+seller-fits : (c : tie.After-known-told2) → Fits w8 (c .before .call2 .given .0 .0 .seller)
+seller-fits c = search needs
+
 trade-on-requires : tie.Need-trade-on-requires
 trade-on-requires c κs =
-    let s = c .before .before .before .before .before .before in
-    let t = c .before .before .before .before .call2 .given .0 .0 in
-    let buyer : Fits w8 (t .buyer) = search needs in
-    let seller : Fits w8 (t .seller) = search needs in
-    tradable (book s) (s .pre) t (buyer .fits) (seller .fits)
+    let k = c .before .before .before in
+    let s = k .before .before .before in
+    tradable (book s) (s .pre) (k .before .call2 .given .0 .0) (buyer-fits k .fits) (seller-fits k .fits)
 
 enum-told : tie.Need-enum-told
 enum-told c = search needs
