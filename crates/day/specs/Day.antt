@@ -1,7 +1,7 @@
 -- A trade date by its parts, the numbers in force on it, and the rules of its minutes.
 use mathlib.Core.Bool.{Bool, _&&_, _||_}
 use Prim.Native.Nat.{ℕ, _+_, _*_}
-use lib.{Dec.leb, Dec.ltb, Dec.eqb, IntN.pos, ListN.length}
+use lib.{Dec.leb, Dec.ltb, Dec.eqb, IntN.pos}
 use Rattle.funding.specs.{declared.FinalMinute.FinalMinute, Price.isPresent, Minute.Minute, Minute.futuresPrice, Minute.mostMinutes}
 use Rattle.calls.specs.{declared.Market.Market, declared.Trade.Trade, Market.noMarket, Trade.simple}
 use Rattle.day.specs.declared.{Day.Day, Markets.Markets}
