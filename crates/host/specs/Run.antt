@@ -3,16 +3,11 @@ use mathlib.Core.{Path._≡_, Bool.Bool, Bool.true, Bool.cond, Bool._&&_, List.L
 use Prim.Native.Nat.{ℕ, _<_}
 use lib.{Dec.eqb, IntN.ℤ, IntN.pos, ListN.length}
 use Rattle.integers.specs.Lists.{Every}
-use Rattle.calls.specs.declared.Call.{Call}
 use Rattle.columns.specs.Columns.{accounts, entry}
-use Rattle.ledger.specs.{declared.Book.Book, Step.run, Step.acceptedCalls, Step.opening}
+use Rattle.ledger.specs.Step.{opening}
 use Rattle.history.specs.{Cash.net, Cash.cashOf, Demand3.history, Demand3.total, Demand3.callsOfDays, Demand3.Whole, History.closings, History.today}
 use Rattle.dayfile.specs.Calls.{callsOf}
-use Rattle.host.specs.declared.RunEnd.{RunEnd}
-
--- a book after a list of calls, and how many of them it accepted
-abbrev pub runOver : Book → List Call → RunEnd
-runOver b cs = record { accepted = length (acceptedCalls accounts b cs); book = run accounts b cs }
+use Rattle.records.specs.{declared.RunEnd.RunEnd, Run.runOver}
 
 -- the run of a fresh book of this size over the calls of a file
 abbrev pub runFile : ℕ → List ℕ → RunEnd

@@ -8,8 +8,9 @@ use borrow.Author.Tests.{not-true, not-false, eqb-true}
 use borrow.Author.Needs.{needs}
 use Rattle.dayfile.specs.Calls.{callsOf}
 use Rattle.host.proofs.Settling.{opened-within, ended-within, settled}
-use Rattle.host.specs.Run.{runOver, runFile, taken}
-use Rattle.host.specs.declared.RunEnd.{RunEnd}
+use Rattle.records.specs.Run.{runOver}
+use Rattle.host.specs.Run.{runFile, taken}
+use Rattle.records.specs.declared.RunEnd.{RunEnd}
 use Rattle.integers.proofs.Tests.{each}
 use Rattle.columns.specs.Columns.{accounts}
 use Rattle.ledger.specs.Inner.{WithinLimits}

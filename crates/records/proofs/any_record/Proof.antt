@@ -1,13 +1,13 @@
--- `host::any_record` meets its contract, by what is read at the place. Assumes nothing.
+-- `records::any_record` meets its contract, by what is read at the place. Assumes nothing.
 use mathlib.Core.Path.{sym, _∙_}
 use native.Mathlib.Omega.{arith}
 use borrow.Author.Needs.{needs}
 use Rattle.dayfile.proofs.Calls.{calls-at-end, calls-at-cut-off, calls-at-known, calls-at-wrong-length, calls-at-unknown}
 use Rattle.dayfile.proofs.Forward.{forward-to}
 use Rattle.dayfile.specs.declared.Read.the-variants as read
-use Rattle.host.proofs.Running.{begins, skips, skips-all, stepped}
-use Rattle.host.proofs.any_record.Statement.{statement}
-use Rattle.host.proofs.any_record.Tie as tie
+use Rattle.records.proofs.Running.{begins, skips, skips-all, stepped}
+use Rattle.records.proofs.any_record.Statement.{statement}
+use Rattle.records.proofs.any_record.Tie as tie
 
 abbrev start : tie.After-read-record → tie.Start
 start k = k .before .before

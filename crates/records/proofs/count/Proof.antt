@@ -1,9 +1,9 @@
--- `host::count` meets its contract. Assumes nothing.
+-- `records::count` meets its contract. Assumes nothing.
 use native.Mathlib.Omega.{arith}
 use borrow.Author.Tests.{eq-eqb, ne-eqb}
 use borrow.Author.Needs.{needs}
-use Rattle.host.proofs.count.Statement.{statement}
-use Rattle.host.proofs.count.Tie as tie
+use Rattle.records.proofs.count.Statement.{statement}
+use Rattle.records.proofs.count.Tie as tie
 
 add-result : tie.Need-add-result
 add-result c = search needs

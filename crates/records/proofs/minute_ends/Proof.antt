@@ -1,4 +1,4 @@
--- `host::minute_ends` meets its contract. The loop's invariant is `Running`; the measure is what is left of the file.
+-- `records::minute_ends` meets its contract. The loop's invariant is `Running`; the measure is what is left of the file.
 -- Assumes nothing.
 use mathlib.Core.Path.{_≡_, refl, sym, _∙_, ap}
 use mathlib.Core.Bool.{true}
@@ -20,10 +20,10 @@ use Rattle.figures.proofs.Held.{figures-hold}
 use Rattle.columns.specs.Columns.{accounts}
 use Rattle.ledger.proofs.Held.{held}
 use Rattle.ledger.proofs.Lent.{step-within, on-figures}
-use Rattle.host.specs.Running.{Running}
-use Rattle.host.proofs.Running.{begins, stepped}
-use Rattle.host.proofs.minute_ends.Statement.{statement}
-use Rattle.host.proofs.minute_ends.Tie as tie
+use Rattle.records.specs.Running.{Running}
+use Rattle.records.proofs.Running.{begins, stepped}
+use Rattle.records.proofs.minute_ends.Statement.{statement}
+use Rattle.records.proofs.minute_ends.Tie as tie
 
 abbrev Inv-loop : tie.InvT-loop
 Inv-loop file opening position cost volume cash figures₀ accepted₀ at₀ figures accepted at =

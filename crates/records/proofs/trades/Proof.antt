@@ -1,4 +1,4 @@
--- `host::trades` meets its contract. The loop's invariant is `Running`; the measure is what is left of the file.
+-- `records::trades` meets its contract. The loop's invariant is `Running`; the measure is what is left of the file.
 -- Assumes nothing.
 use mathlib.Core.Path.{_≡_, sym, _∙_, ap}
 use mathlib.Core.Bool.{true}
@@ -20,10 +20,10 @@ use Rattle.columns.specs.Columns.{accounts}
 use Rattle.ledger.specs.Inner.{bookOf}
 use Rattle.ledger.specs.Step.{step, opening}
 use Rattle.ledger.proofs.Lent.{tradable, step-within}
-use Rattle.host.specs.Running.{Running}
-use Rattle.host.proofs.Running.{begins, stepped}
-use Rattle.host.proofs.trades.Statement.{statement}
-use Rattle.host.proofs.trades.Tie as tie
+use Rattle.records.specs.Running.{Running}
+use Rattle.records.proofs.Running.{begins, stepped}
+use Rattle.records.proofs.trades.Statement.{statement}
+use Rattle.records.proofs.trades.Tie as tie
 
 abbrev Inv-loop : tie.InvT-loop
 Inv-loop file opening position₀ cost₀ volume₀ cash figures₀ accepted₀ at₀ position cost volume figures accepted at =

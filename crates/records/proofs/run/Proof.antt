@@ -1,4 +1,4 @@
--- `host::run` meets its contract. The loop's invariant is `Running`; the measure is what is left of the file. Assumes nothing.
+-- `records::run` meets its contract. The loop's invariant is `Running`; the measure is what is left of the file. Assumes nothing.
 use mathlib.Core.Path.{_∙_, ap}
 use Prim.Native.Nat.{_-_, _≤_}
 use native.Mathlib.Omega.{arith}
@@ -8,14 +8,14 @@ use Rattle.dayfile.proofs.Reading.{at-end}
 use Rattle.dayfile.proofs.Calls.{calls-at-end}
 use Rattle.dayfile.specs.Calls.{callsOf}
 use Rattle.ledger.specs.declared.Book.{Book}
-use Rattle.host.specs.declared.Progress.{Progress}
-use Rattle.host.specs.Running.{Running}
-use Rattle.host.specs.Run.{runOver}
-use Rattle.host.proofs.Running.{begins, ends, joined}
+use Rattle.records.specs.declared.Progress.{Progress}
+use Rattle.records.specs.Running.{Running}
+use Rattle.records.specs.Run.{runOver}
+use Rattle.records.proofs.Running.{begins, ends, joined}
 use Rattle.ledger.specs.Inner.{bookOf}
 use Rattle.ledger.specs.Step.{opening}
-use Rattle.host.proofs.run.Statement.{statement}
-use Rattle.host.proofs.run.Tie as tie
+use Rattle.records.proofs.run.Statement.{statement}
+use Rattle.records.proofs.run.Tie as tie
 
 abbrev Inv-loop : tie.InvT-loop
 Inv-loop file opening₀ position₀ cost₀ volume₀ cash₀ progress₀ opening position cost volume cash progress =
