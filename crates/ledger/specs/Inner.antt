@@ -27,9 +27,9 @@ abbrev pub TradeAnswered : ℕ → Figures → List ℤ → List ℤ → List �
 TradeAnswered n f position cost volume t r position′ cost′ volume′ =
     (opening cash : List ℤ) → answerOf r opening position′ cost′ volume′ cash ≡ answered n (bookOf f opening position cost volume cash) (call.Trade t)
 
--- ---- what is required of a trade
+-- ---- what is required
 
--- so have n and the gross for one
+-- of a trade: both accounts have entries whose sums fit, and n and the gross have room for it
 pub record Tradable (f : Figures) (position cost : List ℤ) (volume : List ℕ) (t : Trade) : Type 0 where
   pub positions : Exchangeable position t mostPosition
   pub costs : Exchangeable cost t mostEntry
@@ -37,9 +37,7 @@ pub record Tradable (f : Figures) (position cost : List ℤ) (volume : List ℕ)
   pub contracts : f .day .trades .settling .contracts + mostQuantity < 2 ^ 32
   pub gross : f .day .trades .settling .gross + mostQuantity * largestPrice < 2 ^ 64
 
--- ---- of a close, and of any call
-
--- a book of n accounts that is within its limits
+-- of any call: a book of n accounts that is within its limits
 pub record WithinLimits (n : ℕ) (b : Book) : Type 0 where
   pub shaped : Shaped n b
   pub within : withinLimits n b ≡ true

@@ -9,16 +9,12 @@ use Rattle.figures.specs.{Refusals.noAccounts, Refusals.sentences, Refusals.fir
 use Rattle.columns.specs.{Columns.countAt, Columns.allBelow, Columns.sumBelow, Limits.accountAt, Limits.accountsOf}
 use Rattle.ledger.specs.declared.Book.{Book}
 
--- ---- the limits
-
 abbrev pub accountOf : Book → ℕ → Bool
 accountOf b = accountAt (b .figures .closed) (b .opening) (b .position) (b .cost) (b .volume) (b .cash)
 
 -- a book of n accounts is within its limits: 01, "final-minute contracts n at most half the sum of all accounts' v"
 unfoldable pub withinLimits : ℕ → Book → Bool
 withinLimits n b = figuresHold (b .figures) && allBelow n (accountOf b) && finalHolds (b .figures .day .trades .settling) (sumBelow n (countAt (b .volume)))
-
--- ---- refusals
 
 -- the number of a trade's refusal by a book within its limits, 0 where there is none
 abbrev pub tradeRefusal : ℕ → Figures → List ℤ → List ℕ → Trade → ℕ

@@ -20,8 +20,7 @@ use Rattle.ledger.proofs.Keeping.{step-kept}
 use Rattle.dayfile.specs.Calls.{callsFrom, callsOf}
 use Rattle.dayfile.proofs.Reading.{at-end}
 use Rattle.dayfile.proofs.Calls.{calls-at-end}
-use Rattle.records.specs.Running.{Ready, Running}
-use Rattle.records.specs.Run.{runOver}
+use Rattle.records.specs.Run.{runOver, Ready, Running}
 
 pub begins : {file : List ℕ} {b : Book} {count at : ℕ} → Ready file b count at → Running file b count at b count at
 begins h = record { ready = h; onward = omega arith; book-is = refl; count-is = refl }

@@ -20,7 +20,7 @@ use Rattle.figures.proofs.Held.{figures-hold}
 use Rattle.columns.specs.Columns.{accounts}
 use Rattle.ledger.proofs.Held.{held}
 use Rattle.ledger.proofs.Lent.{step-within, on-figures}
-use Rattle.records.specs.Running.{Running}
+use Rattle.records.specs.Run.{Running}
 use Rattle.records.proofs.Running.{begins, stepped}
 use Rattle.records.proofs.minute_ends.Statement.{statement}
 use Rattle.records.proofs.minute_ends.Tie as tie

@@ -9,8 +9,7 @@ use Rattle.dayfile.proofs.Calls.{calls-at-end}
 use Rattle.dayfile.specs.Calls.{callsOf}
 use Rattle.ledger.specs.declared.Book.{Book}
 use Rattle.records.specs.declared.Progress.{Progress}
-use Rattle.records.specs.Running.{Running}
-use Rattle.records.specs.Run.{runOver}
+use Rattle.records.specs.Run.{runOver, Running}
 use Rattle.records.proofs.Running.{begins, ends, joined}
 use Rattle.ledger.specs.Inner.{bookOf}
 use Rattle.ledger.specs.Step.{opening}

@@ -20,7 +20,7 @@ use Rattle.columns.specs.Columns.{accounts}
 use Rattle.ledger.specs.Inner.{bookOf}
 use Rattle.ledger.specs.Step.{step, opening}
 use Rattle.ledger.proofs.Lent.{tradable, step-within}
-use Rattle.records.specs.Running.{Running}
+use Rattle.records.specs.Run.{Running}
 use Rattle.records.proofs.Running.{begins, stepped}
 use Rattle.records.proofs.trades.Statement.{statement}
 use Rattle.records.proofs.trades.Tie as tie
