@@ -1,6 +1,7 @@
 -- Laws of texts put piece by piece.
 --     then, room-first, room-rest   two texts one after another
---     length-placed                 the buffer keeps its length
+--     in-words, nothing             one text in other words, and none
+--     length-placed, kept           the buffer keeps its length
 --     placed-over                   what was put from the text's start on is the part of it that the buffer lies over
 -- Assumes nothing.
 use mathlib.Core.Path.{_≡_, refl, sym, _∙_, ap, subst}
@@ -38,6 +39,13 @@ then {at} {a} {b} {from} {out} p q = record {
   end-is = q .end-is ∙ rw (p .end-is, length-append a b) (omega arith);
   out-is = q .out-is ∙ rw (p .end-is, p .out-is, placed-append at a b from out);
 }
+
+pub kept : {at : ℕ} {text : List ℕ} {from : ℕ} {out : List ℕ} {end : ℕ} {after : List ℕ} → Put at text from out end after → length after ≡ length out
+kept {at} {text} {from} {out} p = ap length (p .out-is) ∙ length-placed at text from out
+
+pub nothing : (at from : ℕ) (out : List ℕ) → Put at [] from out at out
+unfolding placed
+nothing at from out = record { end-is = omega arith; out-is = refl }
 
 -- the same text in other words
 pub in-words : {at : ℕ} {a b : List ℕ} {from : ℕ} {out : List ℕ} {end : ℕ} {after : List ℕ} → a ≡ b → Put at a from out end after → Put at b from out end after

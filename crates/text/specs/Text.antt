@@ -23,6 +23,13 @@ abbrev pub signed : ℤ → List ℕ
 signed (pos n) = decimal n
 signed (negsuc n) = bytes "-" ++ decimal (suc n)
 
+-- a label and a number after it
+abbrev pub withNumber : String → ℕ → List ℕ
+withNumber label n = bytes label ++ decimal n
+
+abbrev pub withSigned : String → ℤ → List ℕ
+withSigned label x = bytes label ++ signed x
+
 -- as much of a text as fits, over the front of a buffer: the rest of the buffer stays as it was
 abbrev pub over : List ℕ → List ℕ → List ℕ
 over [] out = out
