@@ -1,105 +1,112 @@
-// What the bench prints, as a value for each record: the program is left with writing its digits.
+// The whole printout of `funding-bench`, from the bytes of its input to the bytes of its text.
 ghost use mathlib.Core.Path.{_≡_};
-ghost use Rattle.ledger.specs.Step.{step};
-ghost use Rattle.printout.specs.Printed.{printedNumber, printedOpening, printedBy, played, notPlayed, playedRecord, isPrinted};
-use calls::Call;
+ghost use Prim.Native.Nat.{_≤_};
+ghost use lib.ListN.{length, drop};
+ghost use Rattle.text.specs.Text.{Put, over};
+ghost use Rattle.lines.specs.Lines.{RoomForLines};
+ghost use Rattle.dayfile.specs.Calls.{recordsOf};
+ghost use Rattle.printout.specs.Printout.{mostInput, textOf, afterRead, afterRecords, printoutOf, printoutOfCounted, printout};
 use dayfile::Read;
-use figures::Fixing;
-use ledger::Answer;
+use dayfile::read_record;
 use ledger::Book;
+use lines::put_accounts;
+use lines::put_day;
+use lines::put_refused;
+use playing::Printed;
+use playing::play_record;
+use playing::printed_opening;
+use text::put;
 
-// The lines of one record.
-pub enum Printed {
-    Nothing,
-    // refused NUMBER record PLACE
-    Refused { number: u8, place: u64 },
-    // day DAY price P rate R amount A valid K
-    Day { day: u64, fixing: Fixing },
-    // a line for each account that is printed
-    Accounts,
-}
+// The bytes of an input that count, its size byte included.
+pub const MOST_INPUT: usize = 65_536;
 
-// A book after a call, and what the call prints.
-pub struct Played {
-    pub printed: Printed,
-    pub book: Book,
-}
-
-// A refusal's line, or nothing without one.
-fn printed_number(number: u8, place: u64) -> Printed
-    ensures { λ r. ⌜ r ≡ printedNumber number place Printed.Nothing ⌝ }
+// The lines of one record, with the book after it.
+fn put_printed(printed: Printed, book: Book, at: usize, from: usize, out: &mut [u8]) -> usize
+    requires { ⌜ RoomForLines at ⌝ }
+    ensures { λ r. ⌜ Put at (textOf printed book) from (now (out .entry)) r (now (out .exit)) ⌝ }
 {
-    if number != 0 {
-        return Printed::Refused { number, place };
-    }
-    Printed::Nothing
-}
-
-// What the opening prints.
-pub fn printed_opening(opened: Answer) -> Printed
-    ensures { λ r. ⌜ r ≡ printedOpening opened ⌝ }
-{
-    printed_number(opened.code, 0)
-}
-
-fn printed_by(answer: Answer, call: Call, place: u64) -> Printed
-    ensures { λ r. ⌜ r ≡ printedBy answer call place ⌝ }
-{
-    if answer.code != 0 {
-        return printed_number(answer.code, place);
-    }
-    let fixing = answer.fixing;
-    let day = answer.book.figures.closed as u64 + 1;
-    match call {
-        Call::Quote(_) => Printed::Nothing,
-        Call::Trade(_) => Printed::Nothing,
-        Call::Halt => Printed::Nothing,
-        Call::Resume => Printed::Nothing,
-        Call::MinuteEnd(_) => Printed::Nothing,
-        Call::Fix(_) => Printed::Day { day, fixing },
-        Call::Close => Printed::Accounts,
+    match printed {
+        Printed::Nothing => at,
+        Printed::Refused { number, place } => put_refused(number, place, at, from, out),
+        Printed::Day { day, fixing } => put_day(day, fixing, at, from, out),
+        Printed::Accounts => {
+            let position = book.position;
+            let cash = book.cash;
+            put_accounts(&position, &cash, at, from, out)
+        }
     }
 }
 
-// A call at its place of the file.
-fn play(book: Book, call: Call, place: u64) -> Played
-    ensures { λ r. ⌜ r ≡ played book call place ⌝ }
-{
-    let answer = book.step(call);
-    let printed = printed_by(answer, call, place);
-    let after = answer.book;
-    Played {
-        printed,
-        book: after,
-    }
-}
-
-// A record that makes no call leaves the book as it is.
-fn not_played(book: Book, read: Read, place: u64) -> Played
-    ensures { λ r. ⌜ r ≡ notPlayed book read place ⌝ }
-{
-    Played {
-        printed: printed_number(read.number(), place),
-        book,
-    }
-}
-
-// What was read at a place of the file.
-pub fn play_record(book: Book, read: Read, place: u64) -> Played
-    ensures { λ r. ⌜ r ≡ playedRecord book read place ⌝ }
+// Where the record after this one starts: nothing of a file follows its end or a record that is cut off.
+fn after_read(read: Read, end: usize) -> usize
+    ensures { λ r. ⌜ r ≡ afterRead read end ⌝ }
 {
     match read {
-        Read::End => not_played(book, read, place),
-        Read::CutOff => not_played(book, read, place),
-        Read::Known(_, call) => play(book, call, place),
-        Read::WrongLength(_) => not_played(book, read, place),
-        Read::Unknown(_) => not_played(book, read, place),
+        Read::End => end,
+        Read::CutOff => end,
+        Read::Known(next, _) => next,
+        Read::WrongLength(next) => next,
+        Read::Unknown(next) => next,
     }
 }
 
-// Whether a close prints an account.
-pub fn is_printed(position: i64, cash: i64) -> bool
-    ensures { λ r. ⌜ r ≡ isPrinted position cash ⌝ }
+// The lines of the records of a file.
+fn put_records(opened: Book, file: &[u8], at: usize, from: usize, out: &mut [u8]) -> usize
+    requires { ⌜ (length (now file) ≤ mostInput) × (at ≤ mostInput) ⌝ }
+    ensures { λ r. ⌜ Put at (afterRecords opened 1 (recordsOf (now (file .entry))) .text) from (now (out .entry)) r (now (out .exit)) ⌝ }
 {
-    (integers::magnitude(position) != 0) | (integers::magnitude(cash) != 0)
+    let mut book = opened;
+    let mut start: usize = 0;
+    let mut place: u64 = 1;
+    let mut end = at;
+    while start < file.len() {
+        let read = read_record(file, start);
+        let played = play_record(book, read, place);
+        let after = played.book;
+        let printed = played.printed;
+        end = put_printed(printed, after, end, from, out);
+        book = after;
+        start = after_read(read, file.len());
+        place += 1;
+    }
+    end
+}
+
+// The printout of a size and the records of a file.
+fn put_printout(size: u8, file: &[u8], from: usize, out: &mut [u8]) -> usize
+    requires { ⌜ length (now file) ≤ mostInput ⌝ }
+    ensures { λ r. ⌜ Put 0 (printoutOf size (now (file .entry))) from (now (out .entry)) r (now (out .exit)) ⌝ }
+{
+    let opened = Book::opening(size as u32);
+    let printed = printed_opening(opened);
+    let book = opened.book;
+    let at = put_printed(printed, book, 0, from, out);
+    if opened.code != 0 {
+        return put(b"end\n", at, from, out);
+    }
+    let end = put_records(book, file, at, from, out);
+    put(b"end\n", end, from, out)
+}
+
+// The printout of an input all of which counts. A missing size counts as 0.
+fn put_counted(input: &[u8], from: usize, out: &mut [u8]) -> usize
+    requires { ⌜ length (now input) ≤ mostInput ⌝ }
+    ensures { λ r. ⌜ Put 0 (printoutOfCounted (now (input .entry))) from (now (out .entry)) r (now (out .exit)) ⌝ }
+{
+    if input.len() == 0 {
+        return put_printout(0, input, from, out);
+    }
+    put_printout(input[0], &input[1..], from, out)
+}
+
+// Writes the part of an input's printout from an offset on that fits the buffer, leaves the rest of the buffer as it is, and
+// answers the length of the whole printout.
+pub fn write(input: &[u8], from: usize, out: &mut [u8]) -> usize
+    ensures length { λ r. ⌜ r ≡ length (printout (now (input .entry))) ⌝ }
+    ensures text { λ r. ⌜ now (out .exit) ≡ over (drop from (printout (now (input .entry)))) (now (out .entry)) ⌝ }
+{
+    if MOST_INPUT < input.len() {
+        return put_counted(&input[..MOST_INPUT], from, out);
+    }
+    put_counted(input, from, out)
 }

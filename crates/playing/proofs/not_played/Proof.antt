@@ -1,7 +1,7 @@
--- `printout::not_played` meets its contract. Assumes nothing.
+-- `playing::not_played` meets its contract. Assumes nothing.
 use borrow.Author.Needs.{needs}
-use Rattle.printout.proofs.not_played.Statement.{statement}
-use Rattle.printout.proofs.not_played.Tie as tie
+use Rattle.playing.proofs.not_played.Statement.{statement}
+use Rattle.playing.proofs.not_played.Tie as tie
 
 number-requires : tie.Need-number-requires
 number-requires c κs = search needs

@@ -1,14 +1,14 @@
 -- What `funding-bench` prints for each record of a file.
-use mathlib.Core.Bool.{Bool, not, cond, _||_}
+use mathlib.Core.Bool.{cond}
 use Prim.Native.Nat.{ℕ, _+_}
-use lib.{Dec.eqb, IntN.ℤ, IntN.natAbs}
+use lib.Dec.{eqb}
 use Rattle.calls.specs.{declared.Call.Call, Calls.onFix, Calls.onClose}
 use Rattle.columns.specs.Columns.{accounts}
 use Rattle.ledger.specs.{declared.Book.Book, declared.Answer.Answer, Step.step}
 use Rattle.dayfile.specs.{declared.Read.Read, Record.readNumber}
 use Rattle.dayfile.specs.declared.Read.the-variants as read
-use Rattle.printout.specs.declared.{Printed.Printed, Played.Played}
-use Rattle.printout.specs.declared.Printed.the-variants as printed
+use Rattle.playing.specs.declared.{Printed.Printed, Played.Played}
+use Rattle.playing.specs.declared.Printed.the-variants as printed
 
 -- a refusal's line, or what is printed without one
 abbrev pub printedNumber : ℕ → ℕ → Printed → Printed
@@ -39,7 +39,3 @@ playedRecord b read.CutOff place = notPlayed b read.CutOff place
 playedRecord b (read.Known next c) place = played b c place
 playedRecord b (read.WrongLength next) place = notPlayed b (read.WrongLength next) place
 playedRecord b (read.Unknown next) place = notPlayed b (read.Unknown next) place
-
--- 01: "account, position and total cash, rising by account, where either is nonzero"
-abbrev pub isPrinted : ℤ → ℤ → Bool
-isPrinted position cash = not (eqb (natAbs position) 0) || not (eqb (natAbs cash) 0)

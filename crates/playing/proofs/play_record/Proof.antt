@@ -1,7 +1,7 @@
--- `printout::play_record` meets its contract, for each thing that may be read. Assumes nothing.
+-- `playing::play_record` meets its contract, for each thing that may be read. Assumes nothing.
 use borrow.Author.Needs.{needs}
-use Rattle.printout.proofs.play_record.Statement.{statement}
-use Rattle.printout.proofs.play_record.Tie as tie
+use Rattle.playing.proofs.play_record.Statement.{statement}
+use Rattle.playing.proofs.play_record.Tie as tie
 
 enum-told : tie.Need-enum-told
 enum-told c = search needs

@@ -1,7 +1,7 @@
--- `printout::play` meets its contract. Assumes nothing.
+-- `playing::play` meets its contract. Assumes nothing.
 use borrow.Author.Needs.{needs}
-use Rattle.printout.proofs.play.Statement.{statement}
-use Rattle.printout.proofs.play.Tie as tie
+use Rattle.playing.proofs.play.Statement.{statement}
+use Rattle.playing.proofs.play.Tie as tie
 
 step-requires : tie.Need-step-requires
 step-requires c κs = search needs

@@ -1,8 +1,8 @@
--- `printout::printed_by` meets its contract, call by call. Assumes nothing.
+-- `playing::printed_by` meets its contract, call by call. Assumes nothing.
 use borrow.Author.Tests.{ne-eqb}
 use borrow.Author.Needs.{needs}
-use Rattle.printout.proofs.printed_by.Statement.{statement}
-use Rattle.printout.proofs.printed_by.Tie as tie
+use Rattle.playing.proofs.printed_by.Statement.{statement}
+use Rattle.playing.proofs.printed_by.Tie as tie
 
 printed-number-requires : tie.Need-printed-number-requires
 printed-number-requires c κs = search needs

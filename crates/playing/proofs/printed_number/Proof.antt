@@ -1,7 +1,7 @@
--- `printout::printed_number` meets its contract. Assumes nothing.
+-- `playing::printed_number` meets its contract. Assumes nothing.
 use borrow.Author.Tests.{ne-eqb}
-use Rattle.printout.proofs.printed_number.Statement.{statement}
-use Rattle.printout.proofs.printed_number.Tie as tie
+use Rattle.playing.proofs.printed_number.Statement.{statement}
+use Rattle.playing.proofs.printed_number.Tie as tie
 
 returns : tie.Need-returns
 returns c = rw (ne-eqb _ _ (c .if1 .taken))

@@ -1,7 +1,7 @@
--- `printout::printed_opening` meets its contract. Assumes nothing.
+-- `playing::printed_opening` meets its contract. Assumes nothing.
 use borrow.Author.Needs.{needs}
-use Rattle.printout.proofs.printed_opening.Statement.{statement}
-use Rattle.printout.proofs.printed_opening.Tie as tie
+use Rattle.playing.proofs.printed_opening.Statement.{statement}
+use Rattle.playing.proofs.printed_opening.Tie as tie
 
 printed-number-requires : tie.Need-printed-number-requires
 printed-number-requires c κs = search needs

@@ -1,0 +1,59 @@
+-- The whole printout of `funding-bench`: from the bytes of its input to the bytes of its text. Document 01, "Reports, file, program".
+use mathlib.Core.{Bool.cond, List.List, List.[], List._∷_, List._++_}
+use Prim.Native.Nat.{ℕ, _+_}
+use lib.{Dec.eqb, ListN.take, ListN.drop, ListN.getD}
+use Rattle.text.specs.Text.{bytes}
+use Rattle.lines.specs.Lines.{refusedLine, dayLine, accountLines}
+use Rattle.columns.specs.Columns.{accounts}
+use Rattle.ledger.specs.{declared.Book.Book, Step.opening}
+use Rattle.dayfile.specs.{declared.Read.Read, Calls.recordsOf}
+use Rattle.dayfile.specs.declared.Read.the-variants as read
+use Rattle.playing.specs.{declared.Printed.Printed, declared.Played.Played, Printed.printedOpening, Printed.playedRecord}
+use Rattle.playing.specs.declared.Printed.the-variants as printed
+
+-- the lines of what is printed, with the book after it
+abbrev pub textOf : Printed → Book → List ℕ
+textOf printed.Nothing b = []
+textOf (printed.Refused number place) b = refusedLine number place
+textOf (printed.Day day fixing) b = dayLine day fixing
+textOf printed.Accounts b = accountLines accounts (b .position) (b .cash)
+
+-- a text, and the book behind its last line
+pub record Lines : Type 0 where
+  pub text : List ℕ
+  pub book : Book
+
+-- a record's lines before those of the records after it
+abbrev pub before : Played → Lines → Lines
+before p rest = record { text = textOf (p .printed) (p .book) ++ rest .text; book = rest .book }
+
+-- the lines of the records of a file, from this place on and on this book
+unfoldable pub afterRecords : Book → ℕ → List Read → Lines
+afterRecords b place [] = record { text = []; book = b }
+afterRecords b place (r ∷ rs) = before (playedRecord b r place) (afterRecords (playedRecord b r place .book) (place + 1) rs)
+
+-- 01: "A refused size prints `refused 5 record 0` and reads no record. Every run's last line is `end`."
+abbrev pub printoutOf : ℕ → List ℕ → List ℕ
+printoutOf size file =
+    textOf (printedOpening (opening accounts size)) (opening accounts size .book)
+    ++ cond (eqb (opening accounts size .code) 0) (afterRecords (opening accounts size .book) 1 (recordsOf file) .text) []
+    ++ bytes "end\n"
+
+-- 01: "reads size (one byte; missing counts as 0), then records"
+abbrev pub printoutOfCounted : List ℕ → List ℕ
+printoutOfCounted input = printoutOf (getD input 0 0) (drop 1 input)
+
+-- 01: "only the first 65,536 bytes count, size byte included, as if the input ended there"
+abbrev pub mostInput : ℕ
+mostInput = 65536
+
+abbrev pub printout : List ℕ → List ℕ
+printout input = printoutOfCounted (take mostInput input)
+
+-- ---- what the private functions promise each other: where the record after this one starts
+abbrev pub afterRead : Read → ℕ → ℕ
+afterRead read.End end = end
+afterRead read.CutOff end = end
+afterRead (read.Known next c) end = next
+afterRead (read.WrongLength next) end = next
+afterRead (read.Unknown next) end = next
