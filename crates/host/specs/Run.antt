@@ -8,6 +8,7 @@ use Rattle.ledger.specs.Step.{opening}
 use Rattle.history.specs.{Cash.net, Cash.cashOf, Demand3.history, Demand3.total, Demand3.callsOfDays, Demand3.Whole, History.closings, History.today}
 use Rattle.dayfile.specs.Calls.{callsOf}
 use Rattle.records.specs.{declared.RunEnd.RunEnd, Run.runOver}
+use Rattle.printout.specs.Printout.{linesOf}
 
 -- the run of a fresh book of this size over the calls of a file
 abbrev pub runFile : ℕ → List ℕ → RunEnd
@@ -43,3 +44,7 @@ pub record Settled (size : ℕ) (file : List ℕ) (number : ℕ) (positions cash
 
 abbrev pub FromBytes : ℕ → List ℕ → ℕ → ℕ → ℕ → List ℤ → List ℤ → Type 0
 FromBytes size file positions cash number positions′ cash′ = taken size positions cash ≡ true → Settled size file number positions′ cash′
+
+-- one run: the book behind the printout's last line is the one that the run for C reports, on the same size and records. Proved in proofs/OneRun.antt
+abbrev pub OneRun : Type 0
+OneRun = (size : ℕ) (file : List ℕ) → linesOf size file .book ≡ runFile size file .book

@@ -27,16 +27,20 @@ pub record Lines : Type 0 where
 abbrev pub before : Played → Lines → Lines
 before p rest = record { text = textOf (p .printed) (p .book) ++ rest .text; book = rest .book }
 
--- the lines of the records of a file, from this place on and on this book
+-- the lines of records on a book, counted from this place on
 unfoldable pub afterRecords : Book → ℕ → List Read → Lines
 afterRecords b place [] = record { text = []; book = b }
 afterRecords b place (r ∷ rs) = before (playedRecord b r place) (afterRecords (playedRecord b r place .book) (place + 1) rs)
+
+-- those of all its records, on a fresh book of this size
+abbrev pub linesOf : ℕ → List ℕ → Lines
+linesOf size file = afterRecords (opening accounts size .book) 1 (recordsOf file)
 
 -- 01: "A refused size prints `refused 5 record 0` and reads no record. Every run's last line is `end`."
 abbrev pub printoutOf : ℕ → List ℕ → List ℕ
 printoutOf size file =
     textOf (printedOpening (opening accounts size)) (opening accounts size .book)
-    ++ cond (eqb (opening accounts size .code) 0) (afterRecords (opening accounts size .book) 1 (recordsOf file) .text) []
+    ++ cond (eqb (opening accounts size .code) 0) (linesOf size file .text) []
     ++ bytes "end\n"
 
 -- 01: "reads size (one byte; missing counts as 0), then records"
