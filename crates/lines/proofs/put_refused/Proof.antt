@@ -12,7 +12,7 @@ slice-aggregate-put-number c = search needs
 put-number-requires : tie.Need-put-number-requires
 put-number-requires c κs =
     let s = c .before .before .before in
-    omega (arith, s .pre, decimal-short (s .args .number))
+    omega (arith, s .pre, decimal-short (s .args .number), decimal-short (s .args .place))
 
 slice-aggregate-put-number-2 : tie.Need-slice-aggregate-put-number-2
 slice-aggregate-put-number-2 c = search needs
