@@ -43,7 +43,8 @@ uint64_t funding_run(uint8_t size,
 
    There is no failure: an empty input and a refused size have a printout too, and the last line
    is always "end". A host may ask for the length first, with an `out_len` of 0, or take part
-   after part through a buffer of its own length; each call plays the input again.
+   after part through one buffer. Each call plays the whole input, so that fewer and longer parts
+   are quicker.
 
    The input is only read, and must not overlap `out`. A pointer may be NULL where its length
    is 0. Nothing is kept from call to call, so that threads may call it at once on buffers of

@@ -65,17 +65,21 @@ static void print_run(const uint8_t *input, size_t length)
     }
 }
 
-/* In parts of a length that most printouts aren't a multiple of. The length is asked for first;
-   a part that answers with another one is told on a line that no printout has. */
+/* Part after part. One that answers with another length than the first is told on a line that no
+   printout has. */
 static void print_printout(const uint8_t *input, size_t length)
 {
-    uint8_t part[1000];
-    size_t whole = funding_printout(input, length, 0, NULL, 0);
-    for (size_t from = 0; from < whole; from += sizeof part) {
+    static uint8_t part[4000];
+    size_t whole = funding_printout(input, length, 0, part, sizeof part);
+    size_t from = 0, answer = whole;
+    while (from < whole) {
         size_t left = whole - from;
-        if (funding_printout(input, length, from, part, sizeof part) != whole)
-            printf("another length from byte %zu on\n", from);
         fwrite(part, 1, left < sizeof part ? left : sizeof part, stdout);
+        from += sizeof part;
+        if (from < whole)
+            answer = funding_printout(input, length, from, part, sizeof part);
+        if (answer != whole)
+            printf("another length from byte %zu on\n", from);
     }
 }
 
