@@ -1,5 +1,5 @@
-/* The run of a funding book over a file of records, in target/staticlib/libfunding.a.
-   docs/FORMAT.md lays down the records and what they do. */
+/* The run of a funding book over a file of records, and its printout, in libfunding.a.
+   docs/FORMAT.md lays down the records, what they do and what is printed. */
 #ifndef FUNDING_H
 #define FUNDING_H
 
@@ -8,6 +8,9 @@
 
 /* Accounts are 0 to 255, and both lists have an entry for each. */
 #define FUNDING_ACCOUNTS 256
+
+/* The bytes of an input, size byte included, that count for a printout. */
+#define FUNDING_PRINTOUT_INPUT 65536
 
 #ifdef __cplusplus
 extern "C" {
@@ -30,6 +33,25 @@ uint64_t funding_run(uint8_t size,
                      const uint8_t *file, size_t file_len,
                      int64_t *positions, size_t positions_len,
                      int64_t *cash, size_t cash_len);
+
+/* Plays `input`, a size byte and then records, on a fresh book, and writes into `out` what
+   funding-bench prints for it: from byte `from` of the printout on, as much as `out` takes.
+   Only the first FUNDING_PRINTOUT_INPUT bytes count, as if the input ended there.
+
+   It returns the length of the whole printout, whatever `from` and `out_len` are. The rest of
+   `out` stays as it was; a `from` at or past that length writes nothing. No zero byte is added.
+
+   There is no failure: an empty input and a refused size have a printout too, and the last line
+   is always "end". A host may ask for the length first, with an `out_len` of 0, or take part
+   after part through one buffer. Each call plays the whole input, so that fewer and longer parts
+   are quicker.
+
+   The input is only read, and must not overlap `out`. A pointer may be NULL where its length
+   is 0. Nothing is kept from call to call, so that threads may call it at once on buffers of
+   their own. */
+size_t funding_printout(const uint8_t *input, size_t input_len,
+                        size_t from,
+                        uint8_t *out, size_t out_len);
 
 #ifdef __cplusplus
 }

@@ -1,9 +1,11 @@
 /* Plays standard input, a size byte and then a file, and prints what funding_run answers and
-   leaves in its lists. tests/differential/README.md lays down the form. */
+   leaves in its lists; with the argument `printout`, what funding_printout writes.
+   tests/differential/README.md lays down the form. */
 #include "funding.h"
 #include <inttypes.h>
 #include <stdio.h>
 #include <stdlib.h>
+#include <string.h>
 
 /* What no position or cash can be. */
 #define SENTINEL INT64_MIN
@@ -46,10 +48,8 @@ static int are_untouched(void)
     return 1;
 }
 
-int main(void)
+static void print_run(const uint8_t *input, size_t length)
 {
-    size_t length;
-    uint8_t *input = read_input(&length);
     uint8_t size = length == 0 ? 0 : input[0];
     size_t head = length == 0 ? 0 : 1;
     for (int account = 0; account < FUNDING_ACCOUNTS; account++)
@@ -63,6 +63,34 @@ int main(void)
         for (int account = 0; account < FUNDING_ACCOUNTS; account++)
             printf("%" PRId64 " %" PRId64 "\n", positions[account], cash[account]);
     }
+}
+
+/* Part after part. One that answers with another length than the first is told on a line that no
+   printout has. */
+static void print_printout(const uint8_t *input, size_t length)
+{
+    static uint8_t part[4000];
+    size_t whole = funding_printout(input, length, 0, part, sizeof part);
+    size_t from = 0, answer = whole;
+    while (from < whole) {
+        size_t left = whole - from;
+        fwrite(part, 1, left < sizeof part ? left : sizeof part, stdout);
+        from += sizeof part;
+        if (from < whole)
+            answer = funding_printout(input, length, from, part, sizeof part);
+        if (answer != whole)
+            printf("another length from byte %zu on\n", from);
+    }
+}
+
+int main(int count, char **arguments)
+{
+    size_t length;
+    uint8_t *input = read_input(&length);
+    if (count == 2 && strcmp(arguments[1], "printout") == 0)
+        print_printout(input, length);
+    else
+        print_run(input, length);
     free(input);
     return 0;
 }
