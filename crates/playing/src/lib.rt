@@ -1,12 +1,17 @@
 // What each record prints, as a value, and the book after it.
 ghost use mathlib.Core.Path.{_≡_};
-ghost use Rattle.ledger.specs.Step.{step};
-ghost use Rattle.playing.specs.Printed.{printedNumber, printedOpening, printedBy, played, notPlayed, playedRecord};
+ghost use Rattle.columns.specs.Columns.{accounts};
+ghost use Rattle.ledger.specs.Inner.{bookOf, WithinLimits};
+ghost use Rattle.ledger.specs.declared.Book.{Book};
+ghost use Rattle.dayfile.specs.Record.{readNumber};
+ghost use Rattle.playing.specs.Printed.{printedNumber, printedBy, playedOf, playedRecord};
 use calls::Call;
+use columns::ACCOUNTS;
 use dayfile::Read;
+use figures::Figures;
 use figures::Fixing;
-use ledger::Answer;
-use ledger::Book;
+use figures::Outcome;
+use ledger::step::step_on;
 
 // The lines of one record.
 pub enum Printed {
@@ -19,10 +24,10 @@ pub enum Printed {
     Accounts,
 }
 
-// A book after a call, and what the call prints.
+// What a record prints, and the figures after it.
 pub struct Played {
     pub printed: Printed,
-    pub book: Book,
+    pub figures: Figures,
 }
 
 // A refusal's line, or nothing without one.
@@ -35,21 +40,14 @@ fn printed_number(number: u8, place: u64) -> Printed
     Printed::Nothing
 }
 
-// What the opening prints.
-pub fn printed_opening(opened: Answer) -> Printed
-    ensures { λ r. ⌜ r ≡ printedOpening opened ⌝ }
+fn printed_by(outcome: Outcome, call: Call, place: u64) -> Printed
+    ensures { λ r. ⌜ r ≡ printedBy (outcome .code) (outcome .fixing) (outcome .figures .closed) call place ⌝ }
 {
-    printed_number(opened.code, 0)
-}
-
-fn printed_by(answer: Answer, call: Call, place: u64) -> Printed
-    ensures { λ r. ⌜ r ≡ printedBy answer call place ⌝ }
-{
-    if answer.code != 0 {
-        return printed_number(answer.code, place);
+    if outcome.code != 0 {
+        return printed_number(outcome.code, place);
     }
-    let fixing = answer.fixing;
-    let day = answer.book.figures.closed as u64 + 1;
+    let fixing = outcome.fixing;
+    let day = outcome.figures.closed as u64 + 1;
     match call {
         Call::Quote(_) => Printed::Nothing,
         Call::Trade(_) => Printed::Nothing,
@@ -61,38 +59,46 @@ fn printed_by(answer: Answer, call: Call, place: u64) -> Printed
     }
 }
 
-// A call at its place of the file.
-fn play(book: Book, call: Call, place: u64) -> Played
-    ensures { λ r. ⌜ r ≡ played book call place ⌝ }
-{
-    let answer = book.step(call);
-    let printed = printed_by(answer, call, place);
-    let after = answer.book;
-    Played {
-        printed,
-        book: after,
-    }
-}
-
 // A record that makes no call leaves the book as it is.
-fn not_played(book: Book, read: Read, place: u64) -> Played
-    ensures { λ r. ⌜ r ≡ notPlayed book read place ⌝ }
+fn not_played(figures: Figures, read: Read, place: u64) -> Played
+    ensures { λ r. ⌜ r ≡ record { printed = printedNumber (readNumber read) place Printed.Nothing; figures = figures } ⌝ }
 {
     Played {
         printed: printed_number(read.number(), place),
-        book,
+        figures,
     }
 }
 
-// What was read at a place of the file.
-pub fn play_record(book: Book, read: Read, place: u64) -> Played
-    ensures { λ r. ⌜ r ≡ playedRecord book read place ⌝ }
+// What was read at a place of the file, on the figures by value and the lent columns of a book within its limits.
+pub fn play_record(
+    figures: Figures,
+    opening: &mut [i64; ACCOUNTS],
+    position: &mut [i64; ACCOUNTS],
+    cost: &mut [i64; ACCOUNTS],
+    volume: &mut [u32; ACCOUNTS],
+    cash: &mut [i64; ACCOUNTS],
+    read: Read,
+    place: u64,
+) -> Played
+    ghost { Book }
+    requires { λ b. ⌜ bookOf figures (now opening) (now position) (now cost) (now volume) (now cash) ≡ b ⌝ }
+    requires { λ b. ⌜ WithinLimits accounts b ⌝ }
+    ensures { λ b r. ⌜ playedOf r (now (opening .exit)) (now (position .exit)) (now (cost .exit)) (now (volume .exit)) (now (cash .exit))
+        ≡ playedRecord b read place ⌝ }
 {
     match read {
-        Read::End => not_played(book, read, place),
-        Read::CutOff => not_played(book, read, place),
-        Read::Known(_, call) => play(book, call, place),
-        Read::WrongLength(_) => not_played(book, read, place),
-        Read::Unknown(_) => not_played(book, read, place),
+        Read::End => not_played(figures, read, place),
+        Read::CutOff => not_played(figures, read, place),
+        Read::Known(_, call) => {
+            let outcome = step_on(figures, opening, position, cost, volume, cash, call);
+            let printed = printed_by(outcome, call, place);
+            let after = outcome.figures;
+            Played {
+                printed,
+                figures: after,
+            }
+        }
+        Read::WrongLength(_) => not_played(figures, read, place),
+        Read::Unknown(_) => not_played(figures, read, place),
     }
 }

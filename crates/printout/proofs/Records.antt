@@ -1,6 +1,7 @@
 -- The lines of a file's records, one record after another.
 --     text-short           how long the lines of one record are
 --     records-short        and those of all records of a file
+--     kept                 a record leaves a book within its limits
 --     further              the record after this one starts further on in the file
 --     lines-next, no-lines      the lines from a place on: those of the record there before those that follow, and none at the file's end
 -- Assumes nothing.
@@ -8,10 +9,13 @@ use mathlib.Core.Path.{_≡_, refl, sym, _∙_, ap}
 use mathlib.Core.List.{List, [], _∷_, _++_}
 use Prim.Native.Nat.{ℕ, zero, suc, _+_, _*_, _<_, _≤_}
 use native.Mathlib.Omega.{arith}
+use lib.IntN.{ℤ}
 use lib.ListN.{length, length-append}
 use Rattle.lines.proofs.Lengths.{longestAccount, refused-short, day-short, accounts-short}
 use Rattle.columns.specs.Columns.{accounts}
 use Rattle.ledger.specs.declared.Book.{Book}
+use Rattle.ledger.specs.Inner.{WithinLimits}
+use Rattle.ledger.proofs.Keeping.{step-kept}
 use Rattle.dayfile.specs.declared.Read.{Read}
 use Rattle.dayfile.specs.declared.Read.the-variants as read
 use Rattle.dayfile.specs.Record.{readAt, Onward}
@@ -27,11 +31,11 @@ use Rattle.printout.specs.Printout.{Lines, textOf, before, afterRead, af
 abbrev pub longestText : ℕ
 longestText = accounts * longestAccount
 
-pub text-short : (p : Printed) (b : Book) → length (textOf p b) ≤ longestText
-text-short printed.Nothing b = omega arith
-text-short (printed.Refused number place) b = omega (arith, refused-short number place)
-text-short (printed.Day day fixing) b = omega (arith, day-short day fixing)
-text-short printed.Accounts b = accounts-short accounts (b .position) (b .cash)
+pub text-short : (p : Printed) (position cash : List ℤ) → length (textOf p position cash) ≤ longestText
+text-short printed.Nothing position cash = omega arith
+text-short (printed.Refused number place) position cash = omega (arith, refused-short number place)
+text-short (printed.Day day fixing) position cash = omega (arith, day-short day fixing)
+text-short printed.Accounts position cash = accounts-short accounts position cash
 
 -- a file has no more records than bytes
 few-followed : (r : Read) (rest : ℕ → List Read) (most : ℕ) → ((next : ℕ) → length (rest next) ≤ most) → length (followed r rest) ≤ suc most
@@ -51,11 +55,19 @@ unfolding afterRecords
 lines-short b place [] = omega arith
 lines-short b place (r ∷ rs) =
     let p = playedRecord b r place in
-    rw (length-append) (omega (arith, text-short (p .printed) (p .book), lines-short (p .book) (place + 1) rs))
+    rw (length-append) (omega (arith, text-short (p .printed) (p .book .position) (p .book .cash), lines-short (p .book) (place + 1) rs))
 
 pub records-short : (b : Book) (file : List ℕ) → length (afterRecords b 1 (recordsOf file) .text) ≤ length file * longestText
 unfolding recordsFrom
 records-short b file = omega (arith, lines-short b 1 (recordsOf file), few (length file) file 0)
+
+-- a record leaves a book within its limits
+pub kept : (b : Book) (r : Read) (place : ℕ) → WithinLimits accounts b → WithinLimits accounts (playedRecord b r place .book)
+kept b read.End place w = w
+kept b read.CutOff place w = w
+kept b (read.Known next c) place w = let k = step-kept accounts b c (w .shaped) (w .within) in record { shaped = k .0; within = k .1 }
+kept b (read.WrongLength next) place w = w
+kept b (read.Unknown next) place w = w
 
 onward : (file : List ℕ) (at : ℕ) (r : Read) → at < length file → Onward file at r → (at < afterRead r (length file)) × (afterRead r (length file) ≤ length file)
 onward file at read.End h o = omega arith

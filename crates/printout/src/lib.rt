@@ -4,8 +4,11 @@ ghost use Prim.Native.Nat.{_≤_};
 ghost use lib.ListN.{length, drop};
 ghost use Rattle.text.specs.Text.{Put, over};
 ghost use Rattle.lines.specs.Lines.{RoomForLines};
+ghost use Rattle.columns.specs.Columns.{accounts};
+ghost use Rattle.ledger.specs.Inner.{WithinLimits};
 ghost use Rattle.dayfile.specs.Calls.{recordsOf};
 ghost use Rattle.printout.specs.Printout.{mostInput, textOf, afterRead, afterRecords, printoutOf, printoutOfCounted, printout};
+use columns::ACCOUNTS;
 use dayfile::Read;
 use dayfile::read_record;
 use ledger::Book;
@@ -14,26 +17,28 @@ use lines::put_day;
 use lines::put_refused;
 use playing::Printed;
 use playing::play_record;
-use playing::printed_opening;
 use text::put;
 
 // The bytes of an input that count, its size byte included.
 pub const MOST_INPUT: usize = 65_536;
 
-// The lines of one record, with the book after it.
-fn put_printed(printed: Printed, book: Book, at: usize, from: usize, out: &mut [u8]) -> usize
-    requires { ⌜ RoomForLines at ⌝ }
-    ensures { λ r. ⌜ Put at (textOf printed book) from (now (out .entry)) r (now (out .exit)) ⌝ }
+// The lines of one record, with the columns after it.
+fn put_printed(
+    printed: Printed,
+    position: &[i64; ACCOUNTS],
+    cash: &[i64; ACCOUNTS],
+    at: usize,
+    from: usize,
+    out: &mut [u8],
+) -> usize
+    requires { ⌜ (length (now position) ≡ accounts) × (length (now cash) ≡ accounts) × RoomForLines at ⌝ }
+    ensures { λ r. ⌜ Put at (textOf printed (now (position .entry)) (now (cash .entry))) from (now (out .entry)) r (now (out .exit)) ⌝ }
 {
     match printed {
         Printed::Nothing => at,
         Printed::Refused { number, place } => put_refused(number, place, at, from, out),
         Printed::Day { day, fixing } => put_day(day, fixing, at, from, out),
-        Printed::Accounts => {
-            let position = book.position;
-            let cash = book.cash;
-            put_accounts(&position, &cash, at, from, out)
-        }
+        Printed::Accounts => put_accounts(position, cash, at, from, out),
     }
 }
 
@@ -50,22 +55,36 @@ fn after_read(read: Read, end: usize) -> usize
     }
 }
 
-// The lines of the records of a file.
-fn put_records(opened: Book, file: &[u8], at: usize, from: usize, out: &mut [u8]) -> usize
-    requires { ⌜ (length (now file) ≤ mostInput) × (at ≤ mostInput) ⌝ }
-    ensures { λ r. ⌜ Put at (afterRecords opened 1 (recordsOf (now (file .entry))) .text) from (now (out .entry)) r (now (out .exit)) ⌝ }
+// The lines of the records of a file, on a book within its limits. The columns stay in place from record to record.
+fn put_records(book: Book, file: &[u8], from: usize, out: &mut [u8]) -> usize
+    requires { ⌜ WithinLimits accounts book × (length (now file) ≤ mostInput) ⌝ }
+    ensures { λ r. ⌜ Put 0 (afterRecords book 1 (recordsOf (now (file .entry))) .text) from (now (out .entry)) r (now (out .exit)) ⌝ }
 {
-    let mut book = opened;
+    let mut figures = book.figures;
+    let mut opening = book.opening;
+    let mut position = book.position;
+    let mut cost = book.cost;
+    let mut volume = book.volume;
+    let mut cash = book.cash;
     let mut start: usize = 0;
     let mut place: u64 = 1;
-    let mut end = at;
+    let mut end: usize = 0;
     while start < file.len() {
         let read = read_record(file, start);
-        let played = play_record(book, read, place);
-        let after = played.book;
+        let played = play_record(
+            figures,
+            &mut opening,
+            &mut position,
+            &mut cost,
+            &mut volume,
+            &mut cash,
+            read,
+            place,
+        );
+        let after = played.figures;
+        figures = after;
         let printed = played.printed;
-        end = put_printed(printed, after, end, from, out);
-        book = after;
+        end = put_printed(printed, &position, &cash, end, from, out);
         start = after_read(read, file.len());
         place += 1;
     }
@@ -78,13 +97,12 @@ fn put_printout(size: u8, file: &[u8], from: usize, out: &mut [u8]) -> usize
     ensures { λ r. ⌜ Put 0 (printoutOf size (now (file .entry))) from (now (out .entry)) r (now (out .exit)) ⌝ }
 {
     let opened = Book::opening(size as u32);
-    let printed = printed_opening(opened);
-    let book = opened.book;
-    let at = put_printed(printed, book, 0, from, out);
     if opened.code != 0 {
-        return put(b"end\n", at, from, out);
+        let end = put_refused(opened.code, 0, 0, from, out);
+        return put(b"end\n", end, from, out);
     }
-    let end = put_records(book, file, at, from, out);
+    let book = opened.book;
+    let end = put_records(book, file, from, out);
     put(b"end\n", end, from, out)
 }
 

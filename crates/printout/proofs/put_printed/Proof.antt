@@ -31,7 +31,7 @@ put-accounts-requires c κs = search needs
 returns : tie.Need-returns
 returns c =
     let s = c .before .before .before in
-    in-words (ap (λ (p : Printed). textOf p (s .args .book)) (sym (c .enum-told .given .1))) (nothing (s .args .at) (s .args .from) (s .args .out .now))
+    in-words (ap (λ (p : Printed). textOf p (s .args .position .now) (s .args .cash .now)) (sym (c .enum-told .given .1))) (nothing (s .args .at) (s .args .from) (s .args .out .now))
 
 same-length : tie.Need-same-length
 same-length c = search needs
@@ -40,7 +40,7 @@ returns-2 : tie.Need-returns-2
 returns-2 c =
     let k = c .before .before .before .before .before in
     let s = k .before .before .before in
-    in-words (ap (λ (p : Printed). textOf p (s .args .book)) (sym (k .printed .given .1))) (c .before .before .put-refused .ensures)
+    in-words (ap (λ (p : Printed). textOf p (s .args .position .now) (s .args .cash .now)) (sym (k .printed .given .1))) (c .before .before .put-refused .ensures)
 
 same-length-2 : tie.Need-same-length-2
 same-length-2 c = search needs
@@ -49,16 +49,16 @@ returns-3 : tie.Need-returns-3
 returns-3 c =
     let k = c .before .before .before .before .before in
     let s = k .before .before .before in
-    in-words (ap (λ (p : Printed). textOf p (s .args .book)) (sym (k .printed2 .given .1))) (c .before .before .put-day .ensures)
+    in-words (ap (λ (p : Printed). textOf p (s .args .position .now) (s .args .cash .now)) (sym (k .printed2 .given .1))) (c .before .before .put-day .ensures)
 
 same-length-3 : tie.Need-same-length-3
 same-length-3 c = search needs
 
 returns-4 : tie.Need-returns-4
 returns-4 c =
-    let k = c .before .before .before .before .before .before .before .before in
+    let k = c .before .before .before .before in
     let s = k .before .before .before in
-    in-words (ap (λ (p : Printed). textOf p (s .args .book)) (sym (k .enum-told2 .given .1))) (c .before .before .put-accounts .ensures)
+    in-words (ap (λ (p : Printed). textOf p (s .args .position .now) (s .args .cash .now)) (sym (k .enum-told2 .given .1))) (c .before .before .put-accounts .ensures)
 
 pub put-printed-spec : {M : Type 1} → statement M
 put-printed-spec =
