@@ -22,8 +22,9 @@ use Rattle.day.specs.Day.{isFinal, minuteOf}
 use Rattle.day.specs.Effects.{traded, minuteEnded}
 use Rattle.figures.specs.Effects.{figuresAfter}
 use Rattle.calls.proofs.Calls as calls
-use Rattle.columns.specs.Effects.{exchanged, counted, posting}
+use Rattle.columns.specs.Effects.{posting}
 use Rattle.columns.proofs.Columns.{table-at}
+use Rattle.trading.specs.Trading.{exchanged, counted}
 use Rattle.ledger.specs.declared.Book.{Book}
 use Rattle.ledger.specs.Effects.{withFigures, tradedBook, closedBook, cashAfter, effect}
 use Rattle.ledger.specs.Step.{fresh}

@@ -2,7 +2,8 @@
 use Prim.Native.Nat.{ℕ, _*_}
 use lib.{IntN.ℤ, IntN.pos, ListN.replicate}
 use Rattle.calls.specs.{Calls.onTrade, Calls.onClose, declared.Trade.Trade, declared.Call.Call}
-use Rattle.columns.specs.{Columns.table, Effects.counted, Effects.exchanged, Effects.posted}
+use Rattle.columns.specs.{Columns.table, Effects.posted}
+use Rattle.trading.specs.Trading.{counted, exchanged}
 use Rattle.figures.specs.{Effects.figuresAfter, declared.Figures.Figures}
 use Rattle.ledger.specs.declared.Book.{Book}
 
@@ -10,8 +11,7 @@ use Rattle.ledger.specs.declared.Book.{Book}
 abbrev pub withFigures : Book → Figures → Book
 withFigures b f = record { figures = f; opening = b .opening; position = b .position; cost = b .cost; volume = b .volume; cash = b .cash }
 
--- ---- a trade
-
+-- a book after a trade
 abbrev pub tradedBook : Book → Figures → Trade → Book
 tradedBook b f t = record {
   figures = f;
@@ -22,8 +22,7 @@ tradedBook b f t = record {
   cash = b .cash;
 }
 
--- ---- a close
-
+-- each account's cash after a close
 abbrev pub cashAfter : Book → ℕ → ℤ
 cashAfter b = posted (b .figures) (b .opening) (b .position) (b .cost) (b .cash)
 
@@ -37,8 +36,6 @@ closedBook n b f = record {
   volume = replicate n 0;
   cash = table n (cashAfter b);
 }
-
--- ---- any call
 
 -- the book of n accounts after an accepted call
 unfoldable pub effect : ℕ → Book → Call → Book

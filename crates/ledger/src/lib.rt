@@ -22,7 +22,6 @@ use step::tested_step;
 mod close;
 mod limits;
 pub mod step;
-pub mod trading;
 
 // A contract's book: its figures and, for each account, the opening and the present position, the cost and the contracts
 // bought plus sold today (v), and the cash.

@@ -7,11 +7,11 @@ ghost use Rattle.ledger.specs.Inner.{bookOf, answerOf, WithinLimits};
 ghost use Rattle.ledger.specs.declared.Book.{Book};
 use crate::close::close_on;
 use crate::limits::limits_hold;
-use crate::trading::trade_on;
 use calls::Call;
 use columns::ACCOUNTS;
 use figures::Figures;
 use figures::Outcome;
+use trading::trade_on;
 
 // The inner layer: a call on a book within its limits. A run uses it, so that it neither copies the book nor scans its limits
 // at every call. What it hands back is within its limits again (specs/Keeping.antt).
