@@ -8,16 +8,14 @@
 use mathlib.Core.Path.{_≡_, refl, sym, _∙_, ap, subst}
 use mathlib.Core.Bool.{Bool, true, false, _&&_, true≢false}
 use mathlib.Core.List.{List, [], _∷_}
-use mathlib.Core.Logic.{_⊎_, inl, inr, ⊎-elim}
+use mathlib.Core.Logic.{_⊎_, ⊎-elim}
 use Prim.Native.Nat.{ℕ, zero, suc, _+_, _*_, _<_, _≤_}
 use native.Mathlib.Nat.{eq-or-lt-of-le}
 use native.Mathlib.Omega.{arith}
-use lib.IntN.{ℤ, pos, natAbs, _+ℤ_}
-use lib.ListN.{length, getD, set}
+use lib.ListN.{length, getD}
 use lib.Seq.{getD-set-same, getD-set-other}
-use Rattle.integers.proofs.Order.{abs-add}
 use Rattle.integers.proofs.Tests.{_and_, each}
-use Rattle.columns.specs.Columns.{entry, countAt, raise, raiseCount, table, allBelow, sumBelow}
+use Rattle.columns.specs.Columns.{countAt, raiseCount, table, allBelow, sumBelow}
 
 -- ---- of every account
 
@@ -74,8 +72,7 @@ unfolding sumBelow
 sum-same zero f g h = refl
 sum-same (suc n) f g h = omega (arith, sum-same n f g (λ i l. h i (omega arith)), h n (omega arith))
 
--- ---- one entry changed
-
+-- of a column with one entry raised
 pub sum-raised : (n : ℕ) (l : List ℕ) (j q : ℕ) → j < n → n ≤ length l → sumBelow n (countAt (raiseCount l j q)) ≡ sumBelow n (countAt l) + q
 unfolding sumBelow
 sum-raised zero l j q h k = absurd (omega arith)

@@ -1,6 +1,6 @@
 -- What an accepted call does to a book: document 01, "A trade date, call by call".
 use Prim.Native.Nat.{ℕ, _*_}
-use lib.{IntN.ℤ, IntN.pos, ListN.replicate}
+use lib.{IntN.pos, ListN.replicate}
 use Rattle.calls.specs.{Calls.onTrade, Calls.onClose, declared.Trade.Trade, declared.Call.Call}
 use Rattle.columns.specs.{Columns.table, Effects.posted}
 use Rattle.trading.specs.Trading.{counted, exchanged}
@@ -22,10 +22,6 @@ tradedBook b f t = record {
   cash = b .cash;
 }
 
--- each account's cash after a close
-abbrev pub cashAfter : Book → ℕ → ℤ
-cashAfter b = posted (b .figures) (b .opening) (b .position) (b .cost) (b .cash)
-
 -- 01: "present positions become opening ones, … and the day's figures (… v, cost …) … start empty"
 abbrev pub closedBook : ℕ → Book → Figures → Book
 closedBook n b f = record {
@@ -34,7 +30,7 @@ closedBook n b f = record {
   position = b .position;
   cost = replicate n (pos 0);
   volume = replicate n 0;
-  cash = table n (cashAfter b);
+  cash = table n (posted (b .figures) (b .opening) (b .position) (b .cost) (b .cash));
 }
 
 -- the book of n accounts after an accepted call
