@@ -3,22 +3,19 @@
 --     all-not            what doesn't hold of one account
 --     sum-most           a sum of numbers with a bound
 --     sum-raised         the sum over a column with one entry raised
---     entry-raised, count-raised     how far an entry rises where one is raised
 --     table-length, table-at     a table's length and entries
 -- Assumes nothing.
 use mathlib.Core.Path.{_≡_, refl, sym, _∙_, ap, subst}
 use mathlib.Core.Bool.{Bool, true, false, _&&_, true≢false}
 use mathlib.Core.List.{List, [], _∷_}
-use mathlib.Core.Logic.{_⊎_, inl, inr, ⊎-elim}
+use mathlib.Core.Logic.{_⊎_, ⊎-elim}
 use Prim.Native.Nat.{ℕ, zero, suc, _+_, _*_, _<_, _≤_}
 use native.Mathlib.Nat.{eq-or-lt-of-le}
 use native.Mathlib.Omega.{arith}
-use lib.IntN.{ℤ, pos, natAbs, _+ℤ_}
-use lib.ListN.{length, getD, set}
+use lib.ListN.{length, getD}
 use lib.Seq.{getD-set-same, getD-set-other}
-use Rattle.integers.proofs.Order.{abs-add}
 use Rattle.integers.proofs.Tests.{_and_, each}
-use Rattle.columns.specs.Columns.{entry, countAt, raise, raiseCount, table, allBelow, sumBelow}
+use Rattle.columns.specs.Columns.{countAt, raiseCount, table, allBelow, sumBelow}
 
 -- ---- of every account
 
@@ -75,24 +72,7 @@ unfolding sumBelow
 sum-same zero f g h = refl
 sum-same (suc n) f g h = omega (arith, sum-same n f g (λ i l. h i (omega arith)), h n (omega arith))
 
--- ---- one entry changed
-
--- after a store an entry is what was stored, at its place, or what it was
-stored : {A : Type 0} (l : List A) (j i : ℕ) (a d : A) → ((i ≡ j) × (getD (set l j a) i d ≡ a)) ⊎ (getD (set l j a) i d ≡ getD l i d)
-stored [] j i a d = inr refl
-stored (x ∷ l) zero zero a d = inl (refl, refl)
-stored (x ∷ l) zero (suc i) a d = inr refl
-stored (x ∷ l) (suc j) zero a d = inr refl
-stored (x ∷ l) (suc j) (suc i) a d = ⊎-elim (λ w. inl (ap suc (w .0), w .1)) (λ w. inr w) (stored l j i a d)
-
--- no entry rises by more than one of them is raised
-pub entry-raised : (l : List ℤ) (j i : ℕ) (z : ℤ) → natAbs (entry (raise l j z) i) ≤ natAbs (entry l i) + natAbs z
-entry-raised l j i z =
-    ⊎-elim (λ w. omega (arith, ap natAbs (w .1 ∙ ap (λ k. entry l k +ℤ z) (sym (w .0))), abs-add (entry l i) z)) (λ w. omega (arith, ap natAbs w)) (stored l j i (entry l j +ℤ z) (pos 0))
-
-pub count-raised : (l : List ℕ) (j i q : ℕ) → countAt (raiseCount l j q) i ≤ countAt l i + q
-count-raised l j i q = ⊎-elim (λ w. omega (arith, w .1, ap (countAt l) (w .0))) (λ w. omega (arith, w)) (stored l j i (countAt l j + q) 0)
-
+-- of a column with one entry raised
 pub sum-raised : (n : ℕ) (l : List ℕ) (j q : ℕ) → j < n → n ≤ length l → sumBelow n (countAt (raiseCount l j q)) ≡ sumBelow n (countAt l) + q
 unfolding sumBelow
 sum-raised zero l j q h k = absurd (omega arith)

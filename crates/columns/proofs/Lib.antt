@@ -1,4 +1,3 @@
 pub mod Columns
-pub mod Raised
 pub mod Filling
 pub mod PostingSize

@@ -1,8 +1,7 @@
-// The account columns of a book: their limits, and what a trade, a close and a report do with them.
+// The account columns of a book: their limits, and what a close and a report do with them.
 pub mod limits;
 pub mod posting;
 pub mod report;
-pub mod trading;
 
 // Accounts are 0 to 255, one byte.
 pub const ACCOUNTS: usize = 256;

@@ -4,7 +4,7 @@ ghost use mathlib.Core.Bool.{cond};
 ghost use Prim.Native.Nat.{_+_, _≤_};
 ghost use Rattle.funding.specs.Minute.{mostMinutes};
 ghost use Rattle.day.specs.Day.{dayLength, noMarkets, emptyDay, inLastMinute, forbidsMinuteEnd, forbidsFix};
-ghost use Rattle.day.specs.Limits.{marketsHold, minutesHold, dayHolds};
+ghost use Rattle.day.specs.Limits.{marketsHold, minutesHold, finalHolds, dayHolds};
 ghost use Rattle.day.specs.Effects.{withMarkets, withMinutes, withTrades, withFixed, weightedAfter, minuteEnded, nextMinute};
 ghost use Rattle.day.specs.Effects.{quoted as Effects·quoted};
 ghost use Rattle.day.specs.Effects.{traded as Effects·traded};
@@ -12,6 +12,8 @@ ghost use Rattle.day.specs.Inner.{RoomForTrade, Endable};
 use calls::Market;
 use calls::Trade;
 use funding::FinalMinute;
+use funding::LARGEST_PRICE;
+use funding::LEAST_PRICE;
 use funding::MOST_MINUTES;
 use funding::none_or_price;
 use integers::is_within;
@@ -89,6 +91,17 @@ impl Markets {
         let mut after = self;
         after.minute = self.standing.as_minute(Market { bid: 0, offer: 0 });
         after
+    }
+}
+
+impl Trades {
+    // Whether those of the final minute are within their limits, where the v of all accounts add up to so much.
+    pub fn final_holds(self, v: u64) -> bool
+        ensures { λ r. ⌜ r ≡ finalHolds (self .settling) v ⌝ }
+    {
+        let gross = self.settling.gross;
+        let n = self.settling.contracts as u64;
+        (2 * n <= v) & (LEAST_PRICE as u64 * n <= gross) & (gross <= LARGEST_PRICE as u64 * n)
     }
 }
 

@@ -22,10 +22,11 @@ use Rattle.day.specs.Day.{isFinal, minuteOf}
 use Rattle.day.specs.Effects.{traded, minuteEnded}
 use Rattle.figures.specs.Effects.{figuresAfter}
 use Rattle.calls.proofs.Calls as calls
-use Rattle.columns.specs.Effects.{exchanged, counted, posting}
+use Rattle.columns.specs.Effects.{posting, posted}
 use Rattle.columns.proofs.Columns.{table-at}
+use Rattle.trading.specs.Trading.{exchanged, counted}
 use Rattle.ledger.specs.declared.Book.{Book}
-use Rattle.ledger.specs.Effects.{withFigures, tradedBook, closedBook, cashAfter, effect}
+use Rattle.ledger.specs.Effects.{withFigures, tradedBook, closedBook, effect}
 use Rattle.ledger.specs.Step.{fresh}
 use Rattle.history.specs.History.{History, lengthOf, halted, market, minuteMarket, last, closings, today, closedPart, trades, minuteEnds, fixes, minutes, endsValid, validOf, validMinutes, finalTrades}
 use Rattle.history.specs.Cash.{finalMinute, indexOf, indexOn, atFix, previousOf, priceOn, lastPrice, amountOn, ofAccount, signed, net, yield, paid, cashOf}
@@ -166,6 +167,10 @@ gains s P j (t ∷ ts) = ap (λ z. z +ℤ yield s P j t) (gains s P j ts) ∙ re
   where
     regroup : (n w q p P s : ℤ) → (n *ℤ P -ℤ w) *ℤ s +ℤ q *ℤ (P -ℤ p) *ℤ s ≡ ((n +ℤ q) *ℤ P -ℤ (w +ℤ q *ℤ p)) *ℤ s
     regroup = ring 6 (λ n w q p P s. (n ⊗ P ⊖ w) ⊗ s ⊕ q ⊗ (P ⊖ p) ⊗ s) (λ n w q p P s. ((n ⊕ q) ⊗ P ⊖ (w ⊕ q ⊗ p)) ⊗ s) refl
+
+-- each account's cash after a close
+abbrev cashAfter : Book → ℕ → ℤ
+cashAfter b = posted (b .figures) (b .opening) (b .position) (b .cost) (b .cash)
 
 -- what the account j had, what the close of h posts to it, and what it has then
 cash-closed : (n s : ℕ) (h : History) (j : ℕ) → j < n → cashAfter (bookFrom n s h) j ≡ cashOf s (call.Close ∷ h) j

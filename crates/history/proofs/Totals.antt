@@ -7,7 +7,7 @@ use Rattle.integers.specs.Lists.{Every, sum}
 use Rattle.calls.specs.declared.Call.the-variants as call
 use Rattle.calls.specs.declared.Trade.{Trade}
 use Rattle.calls.proofs.Calls.{on-trade-is}
-use Rattle.ledger.proofs.KeepingTrade.{in-range}
+use Rattle.trading.proofs.Passed.{in-range}
 use Rattle.history.specs.History.{History, closings, closedPart, trades}
 use Rattle.history.specs.Cash.{lastPrice, amountOn, ofAccount, signed, net, yield, paid, cashOf}
 use Rattle.history.proofs.Sums.{overAll, all-add, all-account, scaled-cancels, sum-cancels}

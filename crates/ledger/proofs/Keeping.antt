@@ -22,8 +22,8 @@ use Rattle.figures.specs.Refusals.{noAccounts}
 use Rattle.figures.proofs.Held.{HeldFigures}
 use Rattle.figures.proofs.Keeping.{held-after}
 use Rattle.columns.specs.Columns.{countAt, sumBelow}
-use Rattle.columns.specs.Limits.{accountsOf}
 use Rattle.columns.proofs.Columns.{table-length}
+use Rattle.trading.specs.Trading.{accountsOf}
 use Rattle.ledger.specs.Effects.{withFigures, effect}
 use Rattle.ledger.specs.Refusals.{refusal, withinLimits}
 use Rattle.ledger.specs.Step.{isAccepted, step, run, fresh, opening}

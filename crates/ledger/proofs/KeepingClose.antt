@@ -14,10 +14,10 @@ use Rattle.day.proofs.Held.{HeldFinal}
 use Rattle.day.proofs.Keeping.{empty-day}
 use Rattle.columns.specs.Columns.{entry, countAt}
 use Rattle.columns.specs.Limits.{mostPosting}
-use Rattle.columns.specs.Effects.{posting}
+use Rattle.columns.specs.Effects.{posting, posted}
 use Rattle.columns.proofs.Columns.{table-at}
 use Rattle.columns.proofs.PostingSize.{posting-size}
-use Rattle.ledger.specs.Effects.{cashAfter, closedBook}
+use Rattle.ledger.specs.Effects.{closedBook}
 use Rattle.ledger.specs.declared.Book.{Book}
 use Rattle.ledger.specs.Step.{fresh}
 use Rattle.ledger.proofs.Held.{Account, Held}
@@ -40,6 +40,6 @@ pub closed-account : (n : ℕ) (b : Book) → Held n b → (j : ℕ) → j < n �
 closed-account n b h j l =
     let a = h .account j l in
     let x = posting (b .figures) (entry (b .position) j) (entry (b .opening) j) (entry (b .cost) j) in
-    let posted : natAbs x ≤ mostPosting =
+    let within : natAbs x ≤ mostPosting =
     posting-size (b .figures) (entry (b .position) j) (entry (b .opening) j) (entry (b .cost) j) (h .figures) (a .position) (a .opening) (omega (arith, a .cost, a .volume)) in
-    omega (arith, a .position, a .cash, no-count n j l, no-entry n j l, ap natAbs (table-at n (cashAfter b) j (pos 0) l), abs-add (entry (b .cash) j) x)
+    omega (arith, a .position, a .cash, no-count n j l, no-entry n j l, ap natAbs (table-at n (posted (b .figures) (b .opening) (b .position) (b .cost) (b .cash)) j (pos 0) l), abs-add (entry (b .cash) j) x)

@@ -1,7 +1,7 @@
 -- What a book within its limits gives the inner layer.
 --     tradable, fixable, closable     what its functions require
 --     step-within                     refusal 2 passes
---     on-figures                      a call that touches no account, on the figures alone
+--     on-figures, on-trade            the answer to a call that touches no account, and to a trade, from its parts
 -- Assumes nothing.
 use mathlib.Core.Path.{_≡_, refl, _∙_, ap}
 use mathlib.Core.Bool.{Bool, true, false, cond}
@@ -12,6 +12,7 @@ use lib.Dec.{eqb}
 use lib.IntN.{ℤ, natAbs}
 use lib.ListN.{length}
 use Rattle.funding.specs.Price.{largestPrice}
+use Rattle.calls.specs.declared.Call.the-variants as call
 use Rattle.calls.specs.declared.Trade.{Trade}
 use Rattle.calls.specs.declared.Call.{Call}
 use Rattle.figures.specs.Effects.{figuresAfter}
@@ -22,10 +23,12 @@ use Rattle.figures.proofs.Held.{figures-hold, size-most}
 use Rattle.columns.specs.Columns.{accounts, entry}
 use Rattle.columns.specs.Limits.{mostVolume}
 use Rattle.columns.specs.Inner.{Closable}
+use Rattle.trading.specs.Trading.{exchanged, counted, tradeRefusal}
+use Rattle.trading.specs.Inner.{Tradable, TradeAnswered}
 use Rattle.ledger.specs.Effects.{withFigures, effect}
 use Rattle.ledger.specs.Refusals.{sentencesOf, refusal}
 use Rattle.ledger.specs.Step.{step}
-use Rattle.ledger.specs.Inner.{bookOf, answerOf, answered, Tradable, WithinLimits}
+use Rattle.ledger.specs.Inner.{bookOf, answerOf, answered, WithinLimits}
 use Rattle.figures.specs.declared.Figures.{Figures}
 use Rattle.figures.specs.declared.Outcome.{Outcome}
 use Rattle.ledger.specs.declared.Book.{Book}
@@ -79,3 +82,20 @@ pub on-figures : (n : ℕ) (b : Book) (c : Call) {r : Outcome} → firstMet (sen
 on-figures n b c {r} number after e =
     ap (λ (r : Outcome). answerOf r (b .opening) (b .position) (b .cost) (b .volume) (b .cash)) e
     ∙ rw (number, after, through (eqb (figuresRefusal (b .figures) c) 0) (figuresAfter (b .figures) c) (b .figures) (b .opening) (b .position) (b .cost) (b .volume) (b .cash))
+
+through-trade : (t : Bool) (f g : Figures) (opening p q c d : List ℤ) (v w : List ℕ) (cash : List ℤ) → bookOf (cond t f g) opening (cond t p q) (cond t c d) (cond t v w) cash ≡ cond t (bookOf f opening p c v cash) (bookOf g opening q d w cash)
+through-trade true f g opening p q c d v w cash = refl
+through-trade false f g opening p q c d v w cash = refl
+
+pub on-trade : (n : ℕ) (b : Book) (t : Trade) {r : Outcome} {position cost : List ℤ} {volume : List ℕ} → TradeAnswered n (b .figures) (b .position) (b .cost) (b .volume) t r position cost volume → answerOf r (b .opening) position cost volume (b .cash) ≡ answered n b (call.Trade t)
+unfolding effect
+on-trade n b t {r} {position} {cost} {volume} a =
+    let number = tradeRefusal n (b .figures) (b .position) (b .volume) t in
+    rw (
+      a .positions,
+      a .costs,
+      a .volumes,
+      a .outcome,
+      through-trade (eqb number 0) (figuresAfter (b .figures) (call.Trade t)) (b .figures) (b .opening) (exchanged (b .position) t (t .quantity)) (b .position)
+          (exchanged (b .cost) t (t .quantity * t .price)) (b .cost) (counted (b .volume) t) (b .volume) (b .cash),
+    )

@@ -1,26 +1,20 @@
 -- What is known of a call that no refusal meets.
 --     passed            the book is within its limits, and none of the sentences is met
 --     within-passes     on a book within its limits the number is not 2
---     trade-number      a trade's number by the figures, and where they give none by its accounts
 -- Assumes nothing.
 use mathlib.Core.Path.{_≡_, refl, ap}
 use mathlib.Core.Bool.{Bool, true, false, not, cond}
-use mathlib.Core.List.{[], _∷_}
+use mathlib.Core.List.{_∷_}
 use Prim.Native.Nat.{ℕ}
-use lib.Dec.{eqb}
 use borrow.Author.Tests.{not-false}
-use Rattle.calls.specs.declared.Call.the-variants as call
 use Rattle.calls.specs.Calls.{onTrade}
-use Rattle.calls.specs.Trade.{tradeOutside}
-use Rattle.calls.specs.declared.Trade.{Trade}
 use Rattle.calls.specs.declared.Call.{Call}
-use Rattle.figures.specs.Refusals.{notAllowed, Accounts, noAccounts, sentences, firstMet, figuresRefusal}
+use Rattle.figures.specs.Refusals.{noAccounts, firstMet}
 use Rattle.figures.proofs.Passed.{unmet, never-met}
 use Rattle.figures.proofs.Passed.{Passed as PassedFigures}
 use Rattle.figures.proofs.Passed.{passed as passed-figures}
-use Rattle.columns.specs.Limits.{accountsOf}
+use Rattle.trading.specs.Trading.{accountsOf}
 use Rattle.ledger.specs.Refusals.{sentencesOf, refusal, withinLimits}
-use Rattle.figures.specs.declared.Figures.{Figures}
 use Rattle.ledger.specs.declared.Book.{Book}
 
 pub record Passed (n : ℕ) (b : Book) (c : Call) : Type 0 where
@@ -40,19 +34,3 @@ passed n b c h =
 pub within-passes : (n : ℕ) (b : Book) (c : Call) → withinLimits n b ≡ true → refusal n b c ≡ 2 → ⊥
 unfolding refusal
 within-passes n b c w h = never-met 2 (sentencesOf n b c) refl (rw w at h)
-
-pub trade-number :
-    (f : Figures) (t : Trade) (a : Accounts) → a .missing ≡ false
-    → firstMet (sentences f (call.Trade t) a)
-    ≡ cond (eqb (figuresRefusal f (call.Trade t)) 0) (firstMet ((7, a .volume) ∷ (8, a .position) ∷ [])) (figuresRefusal f (call.Trade t))
-trade-number f t a e = rw e (go (notAllowed f (call.Trade t)) (f .halted) (tradeOutside t) (a .volume) (a .position))
-  where
-    go : (day halt field volume position : Bool)
-        → firstMet ((3, day) ∷ (4, halt) ∷ (5, field) ∷ (6, false) ∷ (7, volume) ∷ (8, position) ∷ (9, false) ∷ [])
-        ≡ cond (eqb (firstMet ((3, day) ∷ (4, halt) ∷ (5, field) ∷ [])) 0) (firstMet ((7, volume) ∷ (8, position) ∷ [])) (firstMet ((3, day) ∷ (4, halt) ∷ (5, field) ∷ []))
-    go true halt field volume position = refl
-    go false true field volume position = refl
-    go false false true volume position = refl
-    go false false false true position = refl
-    go false false false false true = refl
-    go false false false false false = refl

@@ -1,8 +1,9 @@
 -- What an accepted call does to a book: document 01, "A trade date, call by call".
 use Prim.Native.Nat.{ℕ, _*_}
-use lib.{IntN.ℤ, IntN.pos, ListN.replicate}
+use lib.{IntN.pos, ListN.replicate}
 use Rattle.calls.specs.{Calls.onTrade, Calls.onClose, declared.Trade.Trade, declared.Call.Call}
-use Rattle.columns.specs.{Columns.table, Effects.counted, Effects.exchanged, Effects.posted}
+use Rattle.columns.specs.{Columns.table, Effects.posted}
+use Rattle.trading.specs.Trading.{counted, exchanged}
 use Rattle.figures.specs.{Effects.figuresAfter, declared.Figures.Figures}
 use Rattle.ledger.specs.declared.Book.{Book}
 
@@ -10,8 +11,7 @@ use Rattle.ledger.specs.declared.Book.{Book}
 abbrev pub withFigures : Book → Figures → Book
 withFigures b f = record { figures = f; opening = b .opening; position = b .position; cost = b .cost; volume = b .volume; cash = b .cash }
 
--- ---- a trade
-
+-- a book after a trade
 abbrev pub tradedBook : Book → Figures → Trade → Book
 tradedBook b f t = record {
   figures = f;
@@ -22,11 +22,6 @@ tradedBook b f t = record {
   cash = b .cash;
 }
 
--- ---- a close
-
-abbrev pub cashAfter : Book → ℕ → ℤ
-cashAfter b = posted (b .figures) (b .opening) (b .position) (b .cost) (b .cash)
-
 -- 01: "present positions become opening ones, … and the day's figures (… v, cost …) … start empty"
 abbrev pub closedBook : ℕ → Book → Figures → Book
 closedBook n b f = record {
@@ -35,10 +30,8 @@ closedBook n b f = record {
   position = b .position;
   cost = replicate n (pos 0);
   volume = replicate n 0;
-  cash = table n (cashAfter b);
+  cash = table n (posted (b .figures) (b .opening) (b .position) (b .cost) (b .cash));
 }
-
--- ---- any call
 
 -- the book of n accounts after an accepted call
 unfoldable pub effect : ℕ → Book → Call → Book

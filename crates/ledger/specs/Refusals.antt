@@ -1,12 +1,11 @@
 -- Refusal 2, the limits on what a book holds, and the number of any call's refusal.
 use mathlib.Core.{Bool.Bool, Bool.not, Bool._&&_, List.List, List._∷_}
 use Prim.Native.Nat.{ℕ}
-use lib.IntN.{ℤ}
-use Rattle.calls.specs.declared.Call.the-variants as call
-use Rattle.calls.specs.{Calls.onTrade, declared.Trade.Trade, declared.Call.Call}
+use Rattle.calls.specs.{Calls.onTrade, declared.Call.Call}
 use Rattle.day.specs.Limits.{finalHolds}
-use Rattle.figures.specs.{Refusals.noAccounts, Refusals.sentences, Refusals.firstMet, Figures.figuresHold, declared.Figures.Figures}
-use Rattle.columns.specs.{Columns.countAt, Columns.allBelow, Columns.sumBelow, Limits.accountAt, Limits.accountsOf}
+use Rattle.figures.specs.{Refusals.noAccounts, Refusals.sentences, Refusals.firstMet, Figures.figuresHold}
+use Rattle.columns.specs.{Columns.countAt, Columns.allBelow, Columns.sumBelow, Limits.accountAt}
+use Rattle.trading.specs.Trading.{accountsOf}
 use Rattle.ledger.specs.declared.Book.{Book}
 
 abbrev pub accountOf : Book → ℕ → Bool
@@ -15,10 +14,6 @@ accountOf b = accountAt (b .figures .closed) (b .opening) (b .position) (b .cost
 -- a book of n accounts is within its limits: 01, "final-minute contracts n at most half the sum of all accounts' v"
 unfoldable pub withinLimits : ℕ → Book → Bool
 withinLimits n b = figuresHold (b .figures) && allBelow n (accountOf b) && finalHolds (b .figures .day .trades .settling) (sumBelow n (countAt (b .volume)))
-
--- the number of a trade's refusal by a book within its limits, 0 where there is none
-abbrev pub tradeRefusal : ℕ → Figures → List ℤ → List ℕ → Trade → ℕ
-tradeRefusal n f position volume t = firstMet (sentences f (call.Trade t) (accountsOf n position volume t))
 
 -- the sentences of a call on a book of n accounts that is within its limits
 abbrev pub sentencesOf : ℕ → Book → Call → List (ℕ × Bool)

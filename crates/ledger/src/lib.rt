@@ -17,12 +17,11 @@ use figures::Fixing;
 use figures::Outcome;
 use figures::product::Product;
 use limits::limits_hold;
-use step::tested_step;
+use step::step_on;
 
 mod close;
 mod limits;
 pub mod step;
-pub mod trading;
 
 // A contract's book: its figures and, for each account, the opening and the present position, the cost and the contracts
 // bought plus sold today (v), and the cash.
@@ -97,7 +96,7 @@ impl Book {
         limits_hold(self.figures, &opening, &position, &cost, &volume, &cash)
     }
 
-    // Any call.
+    // Any call. The limits are tested on the columns that it takes out of the book, so that this copies none.
     pub fn step(self, call: Call) -> Answer
         ensures { λ r. ⌜ r ≡ Step·step accounts self call ⌝ }
     {
@@ -106,8 +105,16 @@ impl Book {
         let mut cost = self.cost;
         let mut volume = self.volume;
         let mut cash = self.cash;
-        let outcome = tested_step(
-            self.figures,
+        let figures = self.figures;
+        if !limits_hold(figures, &opening, &position, &cost, &volume, &cash) {
+            return Answer {
+                code: 2,
+                fixing: Fixing::none(),
+                book: self,
+            };
+        }
+        let outcome = step_on(
+            figures,
             &mut opening,
             &mut position,
             &mut cost,

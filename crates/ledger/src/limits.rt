@@ -1,6 +1,5 @@
 // Refusal 2: the limits on a whole book.
 ghost use mathlib.Core.Path.{_≡_};
-ghost use Rattle.day.specs.Limits.{finalHolds};
 ghost use Rattle.columns.specs.Columns.{accounts};
 ghost use Rattle.ledger.specs.Refusals.{withinLimits};
 ghost use Rattle.ledger.specs.Inner.{bookOf};
@@ -9,16 +8,6 @@ use columns::ACCOUNTS;
 use columns::limits::accounts_hold;
 use columns::limits::volume_of;
 use figures::Figures;
-use funding::FinalMinute;
-use funding::LARGEST_PRICE;
-use funding::LEAST_PRICE;
-
-fn final_holds(m: FinalMinute, v: u64) -> bool
-    ensures { λ r. ⌜ r ≡ finalHolds m v ⌝ }
-{
-    let n = m.contracts as u64;
-    (2 * n <= v) & (LEAST_PRICE as u64 * n <= m.gross) & (m.gross <= LARGEST_PRICE as u64 * n)
-}
 
 // Whether a book is within its limits. Its columns are lent, so that the test copies none.
 pub fn limits_hold(
@@ -39,5 +28,5 @@ pub fn limits_hold(
     if !accounts_hold(figures.closed, opening, position, cost, volume, cash) {
         return false;
     }
-    final_holds(figures.day.trades.settling, volume_of(volume))
+    figures.day.trades.final_holds(volume_of(volume))
 }

@@ -1,17 +1,15 @@
 // Any call, on the figures by value and the lent columns.
 ghost use mathlib.Core.Path.{_≡_};
 ghost use Rattle.columns.specs.Columns.{accounts};
-ghost use Rattle.ledger.specs.Keeping.{Shaped};
 ghost use Rattle.ledger.specs.Step.{step};
 ghost use Rattle.ledger.specs.Inner.{bookOf, answerOf, WithinLimits};
 ghost use Rattle.ledger.specs.declared.Book.{Book};
 use crate::close::close_on;
-use crate::limits::limits_hold;
-use crate::trading::trade_on;
 use calls::Call;
 use columns::ACCOUNTS;
 use figures::Figures;
 use figures::Outcome;
+use trading::trade_on;
 
 // The inner layer: a call on a book within its limits. A run uses it, so that it neither copies the book nor scans its limits
 // at every call. What it hands back is within its limits again (specs/Keeping.antt).
@@ -39,26 +37,4 @@ pub fn step_on(
         Call::Fix(set) => figures.fix(set),
         Call::Close => close_on(figures, opening, position, cost, volume, cash),
     }
-}
-
-// The same on any book: refusal 2, or the call.
-pub fn tested_step(
-    figures: Figures,
-    opening: &mut [i64; ACCOUNTS],
-    position: &mut [i64; ACCOUNTS],
-    cost: &mut [i64; ACCOUNTS],
-    volume: &mut [u32; ACCOUNTS],
-    cash: &mut [i64; ACCOUNTS],
-    call: Call,
-) -> Outcome
-    ghost { Book }
-    requires { λ b. ⌜ bookOf figures (now opening) (now position) (now cost) (now volume) (now cash) ≡ b ⌝ }
-    requires { λ b. ⌜ Shaped accounts b ⌝ }
-    ensures { λ b r. ⌜ answerOf r (now (opening .exit)) (now (position .exit)) (now (cost .exit)) (now (volume .exit)) (now (cash .exit))
-        ≡ step accounts b call ⌝ }
-{
-    if !limits_hold(figures, opening, position, cost, volume, cash) {
-        return Outcome::numbered(figures, 2);
-    }
-    step_on(figures, opening, position, cost, volume, cash, call)
 }

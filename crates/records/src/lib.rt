@@ -20,7 +20,7 @@ use dayfile::trade_at;
 use figures::Figures;
 use ledger::Book;
 use ledger::step::step_on;
-use ledger::trading::trade_on;
+use trading::trade_on;
 
 // Where a run ended: the records accepted, and the book.
 pub struct RunEnd {

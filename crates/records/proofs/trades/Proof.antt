@@ -19,7 +19,7 @@ use Rattle.calls.specs.declared.Call.{Call}
 use Rattle.columns.specs.Columns.{accounts}
 use Rattle.ledger.specs.Inner.{bookOf}
 use Rattle.ledger.specs.Step.{step, opening}
-use Rattle.ledger.proofs.Lent.{tradable, step-within}
+use Rattle.ledger.proofs.Lent.{tradable, step-within, on-trade}
 use Rattle.records.specs.Run.{Running}
 use Rattle.records.proofs.Running.{begins, stepped}
 use Rattle.records.proofs.trades.Statement.{statement}
@@ -91,10 +91,10 @@ loop-again c =
     let l = t .before .before in
     let file = start l .args .file .now in
     let at = l .loop .at in
-    let k = call.Trade (m .before .trade-at .result) in
+    let k = m .before .trade-at .result in
     let a =
-    m .trade-on .ensures (bookAt l .opening) (bookAt l .cash)
-    ∙ step-within accounts (bookAt l) k (l .loop .inv .ready .within)
+    on-trade accounts (bookAt l) k (m .trade-on .ensures)
+    ∙ step-within accounts (bookAt l) (call.Trade k) (l .loop .inv .ready .within)
     ∙ ap (λ (t : Trade). step accounts (bookAt l) (call.Trade t)) (m .before .trade-at .ensures) in
     let calls = calls-at-known file at (callAt l) (at + 3 + 11) (known-at file at tag.Trade (found t)) in
     rw (c .body-length .ensures) (stepped (l .loop .inv) (callAt l) (at + 3 + 11) (omega arith) (inside t .0) calls a (c .before .count .ensures))

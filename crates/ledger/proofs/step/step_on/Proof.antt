@@ -11,7 +11,7 @@ use Rattle.figures.proofs.Held.{figures-hold}
 use Rattle.columns.specs.Columns.{accounts}
 use Rattle.ledger.specs.declared.Book.{Book}
 use Rattle.ledger.proofs.Held.{held}
-use Rattle.ledger.proofs.Lent.{tradable, fixable, closable, step-within, on-figures}
+use Rattle.ledger.proofs.Lent.{tradable, fixable, closable, step-within, on-figures, on-trade}
 use Rattle.ledger.proofs.step.step_on.Statement.{statement}
 use Rattle.ledger.proofs.step.step_on.Tie as tie
 
@@ -80,8 +80,8 @@ returns c =
 returns-2 : tie.Need-returns-2
 returns-2 c =
     let s = c .before .before .before .before .before .before .before in
-    let k = call.Trade (c .before .before .before .before .before .call2 .given .0 .0) in
-    c .trade-on .ensures (s .args .opening .now) (s .args .cash .now) ∙ step-within accounts (book s) k (s .pre) ∙ ap (step accounts (book s)) (sym (c .before .before .before .before .before .call2 .given .1))
+    let t = c .before .before .before .before .before .call2 .given .0 .0 in
+    on-trade accounts (book s) t (c .trade-on .ensures) ∙ step-within accounts (book s) (call.Trade t) (s .pre) ∙ ap (step accounts (book s)) (sym (c .before .before .before .before .before .call2 .given .1))
 
 returns-3 : tie.Need-returns-3
 unfolding effect
