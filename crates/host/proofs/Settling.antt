@@ -1,36 +1,29 @@
 -- What a run over a file comes to, by demand 3.
---     opened-within     the book of an accepted opening is within its limits
---     ended-within      and so is the book where a run ended
+--     ended-within      the book where a run ended is within its limits
 --     settled           the book where the run ended has the figures of the history of the file's calls
 -- Assumes nothing.
 use mathlib.Core.Path.{_≡_}
-use mathlib.Core.Bool.{cond}
 use mathlib.Core.List.{List, [], _∷_, reverseAux}
 use Prim.Native.Nat.{ℕ, _+_}
 use native.Mathlib.Omega.{arith}
 use lib.ListN.{length}
 use Rattle.calls.specs.declared.Call.{Call}
-use Rattle.figures.specs.Figures.{isSize}
 use Rattle.columns.specs.Columns.{accounts}
 use Rattle.ledger.specs.declared.Book.{Book}
 use Rattle.ledger.specs.Step.{step, run, acceptedCalls, opening}
 use Rattle.ledger.specs.Inner.{WithinLimits}
-use Rattle.ledger.proofs.Keeping.{fresh-shaped, step-kept, run-within}
+use Rattle.ledger.proofs.Keeping.{opened-within, stays-within}
 use Rattle.history.proofs.Demand3.{demand-three}
 use Rattle.dayfile.specs.Calls.{callsOf}
 use Rattle.host.specs.Run.{runFile, Settled}
 
-pub opened-within : (size : ℕ) → opening accounts size .code ≡ 0 → WithinLimits accounts (opening accounts size .book)
-unfolding run
-opened-within size e = record { shaped = fresh-shaped accounts (cond (isSize size) size 0); within = run-within accounts size [] e }
-
 kept : (b : Book) (cs : List Call) → WithinLimits accounts b → WithinLimits accounts (run accounts b cs)
 unfolding run
 kept b [] w = w
-kept b (c ∷ cs) w = let k = step-kept accounts b c (w .shaped) (w .within) in kept (step accounts b c .book) cs (record { shaped = k .0; within = k .1 })
+kept b (c ∷ cs) w = kept (step accounts b c .book) cs (stays-within accounts b c w)
 
 pub ended-within : (size : ℕ) (file : List ℕ) → opening accounts size .code ≡ 0 → WithinLimits accounts (runFile size file .book)
-ended-within size file e = kept (opening accounts size .book) (callsOf file) (opened-within size e)
+ended-within size file e = kept (opening accounts size .book) (callsOf file) (opened-within accounts size e)
 
 length-reversed : (cs h : List Call) → length (reverseAux cs h) ≡ length cs + length h
 length-reversed [] h = omega arith

@@ -3,6 +3,7 @@
 --     step-kept                       the answer to a call, accepted or refused
 --     fresh-within, fresh-shaped      a fresh book
 --     run-within, never-beyond        a list of calls on an accepted opening
+--     opened-within, stays-within     the same as what is required of a book
 --     refused-beyond                  a refused opening
 -- Assumes nothing.
 use mathlib.Core.Path.{_≡_, refl}
@@ -26,6 +27,7 @@ use Rattle.columns.proofs.Columns.{table-length}
 use Rattle.trading.specs.Trading.{accountsOf}
 use Rattle.ledger.specs.Effects.{withFigures, effect}
 use Rattle.ledger.specs.Refusals.{refusal, withinLimits}
+use Rattle.ledger.specs.Inner.{WithinLimits}
 use Rattle.ledger.specs.Step.{isAccepted, step, run, fresh, opening}
 use Rattle.ledger.specs.Keeping.{Shaped, FreshShaped, ShapeKept, FreshWithin, LimitsKept, RunWithin, NeverBeyond, RefusedBeyond}
 use Rattle.figures.specs.declared.Figures.{Figures}
@@ -100,6 +102,15 @@ no-refusal false h = absurd (omega arith)
 
 pub run-within : RunWithin
 run-within n s cs h = rw (no-refusal (isSize s) h) (run-kept n (fresh n s) cs (fresh-shaped n s) (fresh-within n s (no-refusal (isSize s) h)))
+
+-- the book of an accepted opening
+pub opened-within : (n s : ℕ) → opening n s .code ≡ 0 → WithinLimits n (opening n s .book)
+unfolding run
+opened-within n s h = record { shaped = fresh-shaped n (cond (isSize s) s 0); within = run-within n s [] h }
+
+-- a call on a book within its limits
+pub stays-within : (n : ℕ) (b : Book) (c : Call) → WithinLimits n b → WithinLimits n (step n b c .book)
+stays-within n b c w = let k = step-kept n b c (w .shaped) (w .within) in record { shaped = k .0; within = k .1 }
 
 pub never-beyond : NeverBeyond
 never-beyond n s cs c h = within-passes n (run n (opening n s .book) cs) c (run-within n s cs h)

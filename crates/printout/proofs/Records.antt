@@ -15,7 +15,7 @@ use Rattle.lines.proofs.Lengths.{longestAccount, refused-short, day-short, acco
 use Rattle.columns.specs.Columns.{accounts}
 use Rattle.ledger.specs.declared.Book.{Book}
 use Rattle.ledger.specs.Inner.{WithinLimits}
-use Rattle.ledger.proofs.Keeping.{step-kept}
+use Rattle.ledger.proofs.Keeping.{stays-within}
 use Rattle.dayfile.specs.declared.Read.{Read}
 use Rattle.dayfile.specs.declared.Read.the-variants as read
 use Rattle.dayfile.specs.Record.{readAt, Onward}
@@ -65,7 +65,7 @@ records-short b file = omega (arith, lines-short b 1 (recordsOf file), few (leng
 pub kept : (b : Book) (r : Read) (place : ℕ) → WithinLimits accounts b → WithinLimits accounts (playedRecord b r place .book)
 kept b read.End place w = w
 kept b read.CutOff place w = w
-kept b (read.Known next c) place w = let k = step-kept accounts b c (w .shaped) (w .within) in record { shaped = k .0; within = k .1 }
+kept b (read.Known next c) place w = stays-within accounts b c w
 kept b (read.WrongLength next) place w = w
 kept b (read.Unknown next) place w = w
 

@@ -16,7 +16,7 @@ use Rattle.columns.specs.Columns.{accounts}
 use Rattle.ledger.specs.declared.Book.{Book}
 use Rattle.ledger.specs.declared.Answer.{Answer}
 use Rattle.ledger.specs.Step.{step, run, acceptedCalls, isAccepted}
-use Rattle.ledger.proofs.Keeping.{step-kept}
+use Rattle.ledger.proofs.Keeping.{stays-within}
 use Rattle.dayfile.specs.Calls.{callsFrom, callsOf}
 use Rattle.dayfile.proofs.Reading.{at-end}
 use Rattle.dayfile.proofs.Calls.{calls-at-end}
@@ -54,9 +54,8 @@ module _ {file : List ℕ} {start b : Book} {before from count at : ℕ} (r : Ru
   steps : (c : Call) (next : ℕ) → at < next → next ≤ length file → callsFrom file at ≡ c ∷ callsFrom file next → Running file start before from (step accounts b c .book) (count + cond (eqb (step accounts b c .code) 0) 1 0) next
   unfolding run acceptedCalls step
   steps c next near far e =
-      let k = step-kept accounts b c (r .ready .within .shaped) (r .ready .within .within) in
       record {
-        ready = record { within = record { shaped = k .0; within = k .1 }; inside = far; fewer = at-most (isAccepted accounts b c) };
+        ready = record { within = stays-within accounts b c (r .ready .within); inside = far; fewer = at-most (isAccepted accounts b c) };
         onward = omega (arith, r .onward);
         book-is = r .book-is ∙ ap (run accounts b) e;
         count-is = r .count-is ∙ ap (λ (cs : List Call). count + length (acceptedCalls accounts b cs)) e ∙ one-more (isAccepted accounts b c) (acceptedCalls accounts (step accounts b c .book) (callsFrom file next));

@@ -7,7 +7,8 @@ use lib.ListN.{length}
 use borrow.Author.Tests.{not-true, not-false, eqb-true}
 use borrow.Author.Needs.{needs}
 use Rattle.dayfile.specs.Calls.{callsOf}
-use Rattle.host.proofs.Settling.{opened-within, ended-within, settled}
+use Rattle.ledger.proofs.Keeping.{opened-within}
+use Rattle.host.proofs.Settling.{ended-within, settled}
 use Rattle.records.specs.Run.{runOver}
 use Rattle.host.specs.Run.{runFile, taken}
 use Rattle.records.specs.declared.RunEnd.{RunEnd}
@@ -70,7 +71,7 @@ returns c =
     (rw h, (rw h, (rw h, λ t. absurd (true≢false (sym t ∙ h)))))
 
 run-requires : tie.Need-run-requires
-run-requires c κs = subst (WithinLimits accounts) (sym (ap (λ (a : Answer). a .book) (c .before .before .opening .ensures))) (opened-within (c .before .before .before .before .args .size) (parts c .0))
+run-requires c κs = subst (WithinLimits accounts) (sym (ap (λ (a : Answer). a .book) (c .before .before .opening .ensures))) (opened-within accounts (c .before .before .before .before .args .size) (parts c .0))
 
 fill-requires : tie.Need-fill-requires
 fill-requires c κs = (parts (c .before .before .before .before) .1, shaped (c .before .before .before) .position)
