@@ -1,2 +1,3 @@
 pub mod Placing
 pub mod Lengths
+pub mod Examples

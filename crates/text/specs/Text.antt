@@ -2,7 +2,7 @@
 use mathlib.Core.{Path._≡_, Bool.cond, List.List, List.[], List._∷_, List._++_}
 use Prim.Native.{Char.code, Nat.ℕ, Nat.zero, Nat.suc, Nat._+_, Nat._-_, Nat._/_, Nat._%_, Nat._<_, Nat._≤_, Nat._^_}
 use Prim.Native.String.{String, [] as none, _∷_ as _before_}
-use lib.{Dec.leb, Dec.ltb, IntN.ℤ, IntN.pos, IntN.negsuc, ListN.length, ListN.set, ListN.drop}
+use lib.{Dec.leb, Dec.ltb, IntN.ℤ, IntN.pos, IntN.negsuc, IntN.negℤ, ListN.length, ListN.set, ListN.drop}
 
 -- the bytes of a text in ASCII
 abbrev pub bytes : String → List ℕ
@@ -22,6 +22,13 @@ decimal n = decimalWithin 20 n
 abbrev pub signed : ℤ → List ℕ
 signed (pos n) = decimal n
 signed (negsuc n) = bytes "-" ++ decimal (suc n)
+
+-- numbers to check with a pencil: proved in proofs/Examples.antt, by computing
+pub record Examples : Type 0 where
+  pub zero-is : decimal 0 ≡ bytes "0"
+  pub ten-is : decimal 10 ≡ bytes "10"
+  pub largest-is : decimal 18446744073709551615 ≡ bytes "18446744073709551615"
+  pub negative-is : signed (negℤ (pos 24000)) ≡ bytes "-24000"
 
 -- a label and a number after it
 abbrev pub withNumber : String → ℕ → List ℕ
