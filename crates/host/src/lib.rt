@@ -1,8 +1,6 @@
-// The run of a fresh book over a day file and its printout, for programs in C.
+// The run of a fresh book over a day file, for programs in C.
 ghost use mathlib.Core.Path.{_≡_};
-ghost use lib.ListN.{length, drop};
-ghost use Rattle.text.specs.Text.{over};
-ghost use Rattle.printout.specs.Printout.{printout};
+ghost use lib.ListN.{length};
 ghost use Rattle.host.specs.Run.{acceptedRecords, reportedPositions, reportedCash, FromBytes};
 use columns::ACCOUNTS;
 use columns::report::fill;
@@ -32,14 +30,4 @@ pub extern "C" fn funding_run(size: u8, file: &[u8], positions: &mut [i64], cash
     let posted = end.book.cash;
     fill(cash, &posted);
     end.accepted
-}
-
-// Writes the part of an input's printout from an offset on that fits the buffer, leaves the rest of the buffer as it is, and
-// answers the length of the whole printout.
-#[no_mangle]
-pub extern "C" fn funding_printout(input: &[u8], from: usize, out: &mut [u8]) -> usize
-    ensures length { λ r. ⌜ r ≡ length (printout (now (input .entry))) ⌝ }
-    ensures text { λ r. ⌜ now (out .exit) ≡ over (drop from (printout (now (input .entry)))) (now (out .entry)) ⌝ }
-{
-    printout::write(input, from, out)
 }
