@@ -44,7 +44,16 @@ uint64_t funding_run(uint8_t size,
    There is no failure: an empty input and a refused size have a printout too, and the last line
    is always "end". A host may ask for the length first, with an `out_len` of 0, or take part
    after part through one buffer. Each call plays the whole input, so that fewer and longer parts
-   are quicker.
+   are quicker:
+
+       uint8_t part[65536];
+       size_t from = 0, length = 1;
+       while (from < length) {
+           length = funding_printout(input, input_len, from, part, sizeof part);
+           size_t filled = length - from < sizeof part ? length - from : sizeof part;
+           fwrite(part, 1, filled, stdout);
+           from += filled;
+       }
 
    The input is only read, and must not overlap `out`. A pointer may be NULL where its length
    is 0. Nothing is kept from call to call, so that threads may call it at once on buffers of
