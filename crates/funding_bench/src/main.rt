@@ -10,9 +10,6 @@ fn print(input: &[u8]) {
     let mut from: usize = 0;
     loop {
         let length = printout::write(input, from, &mut part);
-        if length <= from {
-            return;
-        }
         let rest = length - from;
         if rest <= part.len() {
             io::write_all(STDOUT_FILENO, &part[..rest]);

@@ -42,6 +42,6 @@ playedRecord b (read.Known next c) place = played (step accounts b c) c place
 playedRecord b (read.WrongLength next) place = notPlayed b (read.WrongLength next) place
 playedRecord b (read.Unknown next) place = notPlayed b (read.Unknown next) place
 
--- the same from the figures and the lent columns
+-- ---- what the function promises: the same from the figures and the lent columns
 abbrev pub playedOf : Played → List ℤ → List ℤ → List ℤ → List ℕ → List ℤ → AfterRecord
 playedOf p opening position cost volume cash = record { printed = p .printed; book = bookOf (p .figures) opening position cost volume cash }

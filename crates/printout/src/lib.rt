@@ -20,7 +20,7 @@ use playing::play_record;
 use text::put;
 
 // The bytes of an input that count, its size byte included.
-pub const MOST_INPUT: usize = 65_536;
+const MOST_INPUT: usize = 65_536;
 
 // The lines of one record, with the columns after it.
 fn put_printed(

@@ -1,6 +1,6 @@
 -- `funding_bench::print` is safe and ends: each part starts further on in the printout. Assumes nothing.
 use mathlib.Core.Path.{_≡_, sym}
-use Prim.Native.Nat.{_-_}
+use Prim.Native.Nat.{_-_, _≤_}
 use lib.ListN as lists
 use lib.Seq.{length-take-le}
 use borrow.Author.Needs.{needs}
@@ -9,7 +9,7 @@ use Rattle.funding_bench.proofs.print.Statement.{statement}
 use Rattle.funding_bench.proofs.print.Tie as tie
 
 abbrev Inv-loop : tie.InvT-loop
-Inv-loop input part₀ from₀ part from = lists.length part ≡ mostInput
+Inv-loop input part₀ from₀ part from = (lists.length part ≡ mostInput) × (from ≤ lists.length (printout input))
 
 abbrev μ-loop : tie.MeasureT-loop
 μ-loop input part₀ from₀ part from = lists.length (printout input) - from
@@ -26,9 +26,6 @@ slice-aggregate-write c = search needs
 write-requires : tie.Need-write-requires Inv-loop μ-loop
 write-requires c κs = search needs
 
-returns : tie.Need-returns Inv-loop μ-loop
-returns c = search needs
-
 sub-rest : tie.Need-sub-rest Inv-loop μ-loop
 sub-rest c = search needs
 
@@ -37,14 +34,14 @@ array-share-prefix-part c = search needs
 
 slice-aggregate-write-all : tie.Need-slice-aggregate-write-all Inv-loop μ-loop
 slice-aggregate-write-all c =
-    let w = c .before .before .before .before in
+    let w = c .before .before .before in
     sym (length-take-le (w .write .result - w .before .before .loop .from) (w .write .last .1 .1 .0) (search needs))
 
 write-all-requires : tie.Need-write-all-requires Inv-loop μ-loop
 write-all-requires c κs = search needs
 
-returns-2 : tie.Need-returns-2 Inv-loop μ-loop
-returns-2 c = search needs
+returns : tie.Need-returns Inv-loop μ-loop
+returns c = search needs
 
 slice-aggregate-write-all-2 : tie.Need-slice-aggregate-write-all-2 Inv-loop μ-loop
 slice-aggregate-write-all-2 c = search needs
@@ -52,8 +49,8 @@ slice-aggregate-write-all-2 c = search needs
 write-all-requires-2 : tie.Need-write-all-requires-2 Inv-loop μ-loop
 write-all-requires-2 c κs = search needs
 
-returns-3 : tie.Need-returns-3 Inv-loop μ-loop
-returns-3 c = search needs
+returns-2 : tie.Need-returns-2 Inv-loop μ-loop
+returns-2 c = search needs
 
 add-from : tie.Need-add-from Inv-loop μ-loop
 add-from c = search needs
@@ -74,15 +71,14 @@ print-spec =
     loop-holds
     slice-aggregate-write
     write-requires
-    returns
     sub-rest
     array-share-prefix-part
     slice-aggregate-write-all
     write-all-requires
-    returns-2
+    returns
     slice-aggregate-write-all-2
     write-all-requires-2
-    returns-3
+    returns-2
     add-from
     loop-less
     loop-again)
