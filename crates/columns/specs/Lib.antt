@@ -1,4 +1,3 @@
 pub mod Columns
-pub mod Effects
 pub mod Limits
 pub mod Inner

@@ -1,6 +1,5 @@
-// The account columns of a book: their limits, and what a close and a report do with them.
+// The account columns of a book: their limits, and what a report does with them.
 pub mod limits;
-pub mod posting;
 pub mod report;
 
 // Accounts are 0 to 255, one byte.

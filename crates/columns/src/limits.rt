@@ -2,7 +2,7 @@
 ghost use mathlib.Core.Path.{_≡_};
 ghost use Prim.Native.Nat.{_≤_};
 ghost use Rattle.integers.specs.Size.{within};
-ghost use Rattle.figures.specs.Figures.{mostDays};
+ghost use Rattle.refusals.specs.Refusals.{mostDays};
 ghost use Rattle.columns.specs.Columns.{accounts, countAt, allBelow, sumBelow};
 ghost use Rattle.columns.specs.Limits.{mostPosition, accountHolds, accountAt};
 ghost use Rattle.columns.specs.Inner.{VolumesWithin};

@@ -12,10 +12,11 @@ use lib.Dec.{leb, eqb}
 use borrow.Author.Tests.{le-leb, eqb-true}
 use Rattle.integers.proofs.Tests.{tests, _and_, each}
 use Rattle.funding.specs.Price.{noneOrPrice}
+use Rattle.refusals.specs.Refusals.{mostDays}
 use Rattle.day.specs.Limits.{dayHolds}
 use Rattle.day.proofs.Held.{HeldDay, held-day, day-holds}
 use Rattle.figures.specs.declared.Figures.{Figures}
-use Rattle.figures.specs.Figures.{hundredth, tenth, isSize, mostDays, figuresHold}
+use Rattle.figures.specs.Figures.{hundredth, tenth, isSize, figuresHold}
 
 pub record HeldFigures (f : Figures) : Type 0 where
   pub size : isSize (f .size) ≡ true

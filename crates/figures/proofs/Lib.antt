@@ -1,4 +1,2 @@
 pub mod Held
-pub mod Passed
-pub mod Outcomes
-pub mod Keeping
+pub mod Rates

@@ -4,6 +4,7 @@ use Prim.Native.Nat.{ℕ}
 use lib.Dec.{leb, eqb}
 use Rattle.integers.specs.declared.{Tie.Tie, Tie.the-variants.Even}
 use Rattle.funding.specs.{declared.Terms.Terms, Terms.standardTerms, Price.noneOrPrice}
+use Rattle.refusals.specs.Refusals.{mostDays}
 use Rattle.day.specs.{Day.emptyDay, Limits.dayHolds}
 use Rattle.figures.specs.declared.Figures.{Figures}
 
@@ -27,10 +28,6 @@ isSize s = eqb s hundredth || eqb s tenth
 -- 01: "a fresh book holds that size, zeros, and no halt"
 abbrev pub freshFigures : ℕ → Figures
 freshFigures s = record { size = s; closed = 0; halted = false; previous = record { price = 0; index = 0 }; day = emptyDay }
-
--- 01: "closed days 0 to 2,600"
-abbrev pub mostDays : ℕ
-mostDays = 2600
 
 -- 01: "size 1 or 10; closed days 0 to 2,600; … previous price, previous index … 0 or a price"
 unfoldable pub figuresHold : Figures → Bool

@@ -1,5 +1,3 @@
 pub mod Figures
-pub mod Effects
-pub mod Refusals
+pub mod Fixing
 pub mod Outcome
-pub mod Inner

@@ -13,8 +13,7 @@ use Rattle.calls.specs.declared.Call.the-variants as call
 use Rattle.calls.specs.declared.Call.{Call}
 use Rattle.calls.specs.Calls.{onClose}
 use Rattle.calls.proofs.Calls.{FixOr, CloseOr, fix, close, fix-or, close-or, on-close-is}
-use Rattle.figures.specs.Effects.{fixPrice}
-use Rattle.figures.specs.Refusals.{isFull, dayForbids}
+use Rattle.figures.specs.Fixing.{fixPrice}
 use Rattle.calls.proofs.Calls as calls
 use Rattle.ledger.proofs.Held.{held}
 use Rattle.ledger.proofs.Passed.{Passed}
@@ -46,10 +45,6 @@ closes-passed n s (c ∷ h) a =
 
 -- ---- a closed day is whole
 
--- the test of the day that a call passed
-allowed : (n s : ℕ) (h : History) (c : Call) → Passed n (bookFrom n s h) c → dayForbids (figuresFrom s h .day) c ≡ false
-allowed n s h c p = both-false (isFull (figuresFrom s h)) (dayForbids (figuresFrom s h .day) c) (p .sentences .day) .1
-
 -- a day has one fix once P stands, and none before
 one-fix : (n s : ℕ) (h : History) → AllPassed n s h → length (fixes h) ≡ cond (isPresent (priceOn h)) 1 0
 unfolding closings fixes atFix
@@ -58,7 +53,7 @@ one-fix n s (c ∷ h) a = by (one-fix n s h (a .1)) (fix-or c) (close-or c)
   where
     at-fix : (set : ℕ) → length (fixes h) ≡ cond (isPresent (priceOn h)) 1 0 → Passed n (bookFrom n s h) (call.Fix set) → suc (length (fixes h)) ≡ cond (isPresent (fixPrice (figuresFrom s h) set)) 1 0
     at-fix set rest p =
-        let unfixed = both-false (ltb (minutes h) (lengthOf h)) (isPresent (priceOn h)) (allowed n s h (call.Fix set) p) .1 in
+        let unfixed = both-false (ltb (minutes h) (lengthOf h)) (isPresent (priceOn h)) (p .sentences .day) .1 in
         ap suc (rest ∙ ap (λ (x : Bool). cond x 1 0) unfixed)
         ∙ sym (ap (λ (x : Bool). cond x 1 0) (not-false (isPresent (fixPrice (figuresFrom s h) set)) (p .sentences .price)))
 
@@ -70,7 +65,7 @@ one-fix n s (c ∷ h) a = by (one-fix n s h (a .1)) (fix-or c) (close-or c)
 
 -- the day that a close is accepted on is fixed
 fixed : (n s : ℕ) (d : History) → Passed n (bookFrom n s d) call.Close → isPresent (priceOn d) ≡ true
-fixed n s d p = not-false (isPresent (priceOn d)) (allowed n s d call.Close p)
+fixed n s d p = not-false (isPresent (priceOn d)) (p .sentences .day)
 
 -- and within its limits, so that it has all its minutes
 all-minutes : (n s : ℕ) (d : History) → Passed n (bookFrom n s d) call.Close → minutes d ≡ lengthOf d

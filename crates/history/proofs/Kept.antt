@@ -20,9 +20,9 @@ use Rattle.calls.specs.declared.Call.{Call}
 use Rattle.calls.proofs.Calls.{TradeOr, CloseOr, trade, close, trade-or, close-or}
 use Rattle.day.specs.Day.{isFinal, minuteOf}
 use Rattle.day.specs.Effects.{traded, minuteEnded}
-use Rattle.figures.specs.Effects.{figuresAfter}
+use Rattle.outcomes.specs.Effects.{figuresAfter}
 use Rattle.calls.proofs.Calls as calls
-use Rattle.columns.specs.Effects.{posting, posted}
+use Rattle.closing.specs.Closing.{posting, posted}
 use Rattle.columns.proofs.Columns.{table-at}
 use Rattle.trading.specs.Trading.{exchanged, counted}
 use Rattle.ledger.specs.declared.Book.{Book}

@@ -17,11 +17,11 @@ use Rattle.integers.proofs.Tests.{by-test}
 use Rattle.calls.specs.declared.Call.the-variants as call
 use Rattle.calls.specs.Calls.{onTrade}
 use Rattle.calls.specs.declared.Call.{Call}
-use Rattle.figures.specs.Effects.{figuresAfter}
+use Rattle.outcomes.specs.Effects.{figuresAfter}
 use Rattle.figures.specs.Figures.{isSize, figuresHold}
-use Rattle.figures.specs.Refusals.{noAccounts}
+use Rattle.refusals.specs.Refusals.{noAccounts}
 use Rattle.figures.proofs.Held.{HeldFigures}
-use Rattle.figures.proofs.Keeping.{held-after}
+use Rattle.outcomes.proofs.Keeping.{held-after}
 use Rattle.columns.specs.Columns.{countAt, sumBelow}
 use Rattle.columns.proofs.Columns.{table-length}
 use Rattle.trading.specs.Trading.{accountsOf}

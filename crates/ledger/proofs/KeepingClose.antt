@@ -9,14 +9,14 @@ use lib.ListN.{replicate, getD-replicate}
 use Rattle.integers.proofs.Order.{abs-add}
 use Rattle.day.specs.Day.{noTrades}
 use Rattle.figures.specs.Figures.{isSize}
-use Rattle.figures.specs.Effects.{closedFigures}
+use Rattle.outcomes.specs.Effects.{closedFigures}
 use Rattle.day.proofs.Held.{HeldFinal}
 use Rattle.day.proofs.Keeping.{empty-day}
 use Rattle.columns.specs.Columns.{entry, countAt}
 use Rattle.columns.specs.Limits.{mostPosting}
-use Rattle.columns.specs.Effects.{posting, posted}
+use Rattle.closing.specs.Closing.{posting, posted}
 use Rattle.columns.proofs.Columns.{table-at}
-use Rattle.columns.proofs.PostingSize.{posting-size}
+use Rattle.closing.proofs.PostingSize.{posting-size}
 use Rattle.ledger.specs.Effects.{closedBook}
 use Rattle.ledger.specs.declared.Book.{Book}
 use Rattle.ledger.specs.Step.{fresh}

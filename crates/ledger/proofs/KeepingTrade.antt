@@ -16,7 +16,7 @@ use Rattle.funding.specs.Price.{largestPrice}
 use Rattle.calls.specs.declared.Call.the-variants as call
 use Rattle.calls.specs.declared.Trade.{Trade}
 use Rattle.day.specs.Day.{dayLength, isFinal, withTrade}
-use Rattle.figures.specs.Effects.{figuresAfter}
+use Rattle.outcomes.specs.Effects.{figuresAfter}
 use Rattle.day.proofs.Held.{HeldFinal}
 use Rattle.day.proofs.Keeping.{TradeFields, trade-fields}
 use Rattle.columns.specs.Columns.{entry, countAt, raise, raiseCount, sumBelow}

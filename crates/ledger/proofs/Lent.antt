@@ -1,7 +1,7 @@
 -- What a book within its limits gives the inner layer.
 --     tradable, fixable, closable     what its functions require
 --     step-within                     refusal 2 passes
---     on-figures, on-trade            the answer to a call that touches no account, and to a trade, from its parts
+--     on-figures, on-trade, on-close  the answer to a call that touches no account, to a trade and to a close, from its parts
 -- Assumes nothing.
 use mathlib.Core.Path.{_≡_, refl, _∙_, ap}
 use mathlib.Core.Bool.{Bool, true, false, cond}
@@ -9,20 +9,21 @@ use mathlib.Core.List.{List}
 use Prim.Native.Nat.{ℕ, _*_, _<_, _≤_}
 use native.Mathlib.Omega.{arith}
 use lib.Dec.{eqb}
-use lib.IntN.{ℤ, natAbs}
-use lib.ListN.{length}
+use lib.IntN.{ℤ, natAbs, pos}
+use lib.ListN.{length, replicate}
 use Rattle.funding.specs.Price.{largestPrice}
 use Rattle.calls.specs.declared.Call.the-variants as call
 use Rattle.calls.specs.declared.Trade.{Trade}
 use Rattle.calls.specs.declared.Call.{Call}
-use Rattle.figures.specs.Effects.{figuresAfter}
-use Rattle.figures.specs.Refusals.{firstMet, figuresRefusal}
-use Rattle.figures.specs.Outcome.{outcome}
-use Rattle.figures.specs.Inner.{Fixable}
+use Rattle.outcomes.specs.Effects.{figuresAfter}
+use Rattle.refusals.specs.Refusals.{firstMet}
+use Rattle.outcomes.specs.Outcome.{figuresRefusal, outcome}
+use Rattle.figures.specs.Fixing.{Fixable}
 use Rattle.figures.proofs.Held.{figures-hold, size-most}
-use Rattle.columns.specs.Columns.{accounts, entry}
+use Rattle.columns.specs.Columns.{accounts, entry, table}
 use Rattle.columns.specs.Limits.{mostVolume}
-use Rattle.columns.specs.Inner.{Closable}
+use Rattle.closing.specs.Closing.{posted}
+use Rattle.closing.specs.Inner.{Closable, CloseAnswered}
 use Rattle.trading.specs.Trading.{exchanged, counted, tradeRefusal}
 use Rattle.trading.specs.Inner.{Tradable, TradeAnswered}
 use Rattle.ledger.specs.Effects.{withFigures, effect}
@@ -98,4 +99,21 @@ on-trade n b t {r} {position} {cost} {volume} a =
       a .outcome,
       through-trade (eqb number 0) (figuresAfter (b .figures) (call.Trade t)) (b .figures) (b .opening) (exchanged (b .position) t (t .quantity)) (b .position)
           (exchanged (b .cost) t (t .quantity * t .price)) (b .cost) (counted (b .volume) t) (b .volume) (b .cash),
+    )
+
+through-close : (t : Bool) (f g : Figures) (o p position c d : List ℤ) (v w : List ℕ) (k l : List ℤ) → bookOf (cond t f g) (cond t o p) position (cond t c d) (cond t v w) (cond t k l) ≡ cond t (bookOf f o position c v k) (bookOf g p position d w l)
+through-close true f g o p position c d v w k l = refl
+through-close false f g o p position c d v w k l = refl
+
+pub on-close : (n : ℕ) (b : Book) {r : Outcome} {opening cost : List ℤ} {volume : List ℕ} {cash : List ℤ} → CloseAnswered n (b .figures) (b .opening) (b .position) (b .cost) (b .volume) (b .cash) r opening cost volume cash → answerOf r opening (b .position) cost volume cash ≡ answered n b call.Close
+unfolding effect
+on-close n b {r} {opening} {cost} {volume} {cash} a =
+    rw (
+      a .openings,
+      a .costs,
+      a .volumes,
+      a .cashes,
+      a .answer,
+      through-close (eqb (figuresRefusal (b .figures) call.Close) 0) (figuresAfter (b .figures) call.Close) (b .figures) (b .position) (b .opening) (b .position)
+          (replicate n (pos 0)) (b .cost) (replicate n 0) (b .volume) (table n (posted (b .figures) (b .opening) (b .position) (b .cost) (b .cash))) (b .cash),
     )

@@ -1,6 +1,5 @@
 pub mod Held
 pub mod Passed
-pub mod Answers
 pub mod KeepingTrade
 pub mod KeepingClose
 pub mod Keeping

@@ -9,10 +9,9 @@ use Prim.Native.Nat.{ℕ}
 use borrow.Author.Tests.{not-false}
 use Rattle.calls.specs.Calls.{onTrade}
 use Rattle.calls.specs.declared.Call.{Call}
-use Rattle.figures.specs.Refusals.{noAccounts, firstMet}
-use Rattle.figures.proofs.Passed.{unmet, never-met}
-use Rattle.figures.proofs.Passed.{Passed as PassedFigures}
-use Rattle.figures.proofs.Passed.{passed as passed-figures}
+use Rattle.refusals.specs.Refusals.{noAccounts, firstMet}
+use Rattle.refusals.proofs.Passed.{unmet, never-met}
+use Rattle.outcomes.proofs.Passed.{PassedFigures, passed-figures}
 use Rattle.trading.specs.Trading.{accountsOf}
 use Rattle.ledger.specs.Refusals.{sentencesOf, refusal, withinLimits}
 use Rattle.ledger.specs.declared.Book.{Book}

@@ -2,9 +2,11 @@
 use Prim.Native.Nat.{ℕ, _*_}
 use lib.{IntN.pos, ListN.replicate}
 use Rattle.calls.specs.{Calls.onTrade, Calls.onClose, declared.Trade.Trade, declared.Call.Call}
-use Rattle.columns.specs.{Columns.table, Effects.posted}
+use Rattle.columns.specs.Columns.{table}
+use Rattle.closing.specs.Closing.{posted}
 use Rattle.trading.specs.Trading.{counted, exchanged}
-use Rattle.figures.specs.{Effects.figuresAfter, declared.Figures.Figures}
+use Rattle.outcomes.specs.Effects.{figuresAfter}
+use Rattle.figures.specs.declared.Figures.{Figures}
 use Rattle.ledger.specs.declared.Book.{Book}
 
 -- a book with other figures

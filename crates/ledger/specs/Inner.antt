@@ -4,7 +4,8 @@ use mathlib.Core.{Path._≡_, Bool.true, List.List}
 use Prim.Native.Nat.{ℕ}
 use lib.IntN.{ℤ}
 use Rattle.calls.specs.declared.Call.{Call}
-use Rattle.figures.specs.{Refusals.firstMet, declared.Figures.Figures, declared.Outcome.Outcome}
+use Rattle.refusals.specs.Refusals.{firstMet}
+use Rattle.figures.specs.{declared.Figures.Figures, declared.Outcome.Outcome}
 use Rattle.ledger.specs.{Refusals.sentencesOf, Refusals.withinLimits, Step.answerBy, Keeping.Shaped, declared.Book.Book, declared.Answer.Answer}
 
 abbrev pub bookOf : Figures → List ℤ → List ℤ → List ℤ → List ℕ → List ℤ → Book

@@ -3,7 +3,9 @@ use mathlib.Core.{Bool.Bool, Bool.not, Bool._&&_, List.List, List._∷_}
 use Prim.Native.Nat.{ℕ}
 use Rattle.calls.specs.{Calls.onTrade, declared.Call.Call}
 use Rattle.day.specs.Limits.{finalHolds}
-use Rattle.figures.specs.{Refusals.noAccounts, Refusals.sentences, Refusals.firstMet, Figures.figuresHold}
+use Rattle.refusals.specs.Refusals.{noAccounts, firstMet}
+use Rattle.outcomes.specs.Outcome.{sentencesOn}
+use Rattle.figures.specs.Figures.{figuresHold}
 use Rattle.columns.specs.{Columns.countAt, Columns.allBelow, Columns.sumBelow, Limits.accountAt}
 use Rattle.trading.specs.Trading.{accountsOf}
 use Rattle.ledger.specs.declared.Book.{Book}
@@ -17,7 +19,7 @@ withinLimits n b = figuresHold (b .figures) && allBelow n (accountOf b) && final
 
 -- the sentences of a call on a book of n accounts that is within its limits
 abbrev pub sentencesOf : ℕ → Book → Call → List (ℕ × Bool)
-sentencesOf n b c = sentences (b .figures) c (onTrade (accountsOf n (b .position) (b .volume)) noAccounts c)
+sentencesOf n b c = sentencesOn (b .figures) c (onTrade (accountsOf n (b .position) (b .volume)) noAccounts c)
 
 -- 2: "The book holds a number beyond its limits". The number of any call's refusal: that one comes first
 unfoldable pub refusal : ℕ → Book → Call → ℕ

@@ -19,7 +19,6 @@ use figures::product::Product;
 use limits::limits_hold;
 use step::step_on;
 
-mod close;
 mod limits;
 pub mod step;
 

@@ -4,8 +4,8 @@ ghost use Rattle.columns.specs.Columns.{accounts};
 ghost use Rattle.ledger.specs.Step.{step};
 ghost use Rattle.ledger.specs.Inner.{bookOf, answerOf, WithinLimits};
 ghost use Rattle.ledger.specs.declared.Book.{Book};
-use crate::close::close_on;
 use calls::Call;
+use closing::close_on;
 use columns::ACCOUNTS;
 use figures::Figures;
 use figures::Outcome;
@@ -29,12 +29,12 @@ pub fn step_on(
         ≡ step accounts b call ⌝ }
 {
     match call {
-        Call::Quote(market) => figures.quote(market),
+        Call::Quote(market) => outcomes::quote(figures, market),
         Call::Trade(trade) => trade_on(figures, position, cost, volume, trade),
-        Call::Halt => figures.halt(),
-        Call::Resume => figures.resume(),
-        Call::MinuteEnd(index) => figures.minute_end(index),
-        Call::Fix(set) => figures.fix(set),
+        Call::Halt => outcomes::halt(figures),
+        Call::Resume => outcomes::resume(figures),
+        Call::MinuteEnd(index) => outcomes::minute_end(figures, index),
+        Call::Fix(set) => outcomes::fix(figures, set),
         Call::Close => close_on(figures, opening, position, cost, volume, cash),
     }
 }

@@ -102,7 +102,7 @@ fn minute_ends(
     let mut at = from.at;
     while is_record_at(file, at, Tag::MinuteEnd) {
         let body = at + HEAD;
-        let outcome = figures.minute_end(four_bytes(file, body));
+        let outcome = outcomes::minute_end(figures, four_bytes(file, body));
         let after = outcome.figures;
         figures = after;
         accepted = count(accepted, outcome.code);

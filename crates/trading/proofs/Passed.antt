@@ -3,7 +3,7 @@
 --     in-range         where no account is missing, both are among the n
 -- Assumes nothing.
 use mathlib.Core.Path.{_≡_, refl}
-use mathlib.Core.Bool.{Bool, true, false, not, cond, _&&_}
+use mathlib.Core.Bool.{Bool, true, false, not, cond, _&&_, _||_}
 use mathlib.Core.List.{[], _∷_}
 use Prim.Native.Nat.{ℕ, _<_}
 use lib.Dec.{eqb, ltb}
@@ -12,14 +12,15 @@ use Rattle.integers.proofs.Tests.{tests, each}
 use Rattle.calls.specs.declared.Call.the-variants as call
 use Rattle.calls.specs.Trade.{tradeOutside}
 use Rattle.calls.specs.declared.Trade.{Trade}
-use Rattle.figures.specs.Refusals.{notAllowed, Accounts, sentences, firstMet, figuresRefusal}
+use Rattle.refusals.specs.Refusals.{isFull, Accounts, firstMet}
+use Rattle.outcomes.specs.Outcome.{sentencesOn, figuresRefusal}
 use Rattle.figures.specs.declared.Figures.{Figures}
 
 pub trade-number :
     (f : Figures) (t : Trade) (a : Accounts) → a .missing ≡ false
-    → firstMet (sentences f (call.Trade t) a)
+    → firstMet (sentencesOn f (call.Trade t) a)
     ≡ cond (eqb (figuresRefusal f (call.Trade t)) 0) (firstMet ((7, a .volume) ∷ (8, a .position) ∷ [])) (figuresRefusal f (call.Trade t))
-trade-number f t a e = rw e (go (notAllowed f (call.Trade t)) (f .halted) (tradeOutside t) (a .volume) (a .position))
+trade-number f t a e = rw e (go (isFull (f .closed) || false) (f .halted) (tradeOutside t) (a .volume) (a .position))
   where
     go : (day halt field volume position : Bool)
         → firstMet ((3, day) ∷ (4, halt) ∷ (5, field) ∷ (6, false) ∷ (7, volume) ∷ (8, position) ∷ (9, false) ∷ [])

@@ -5,7 +5,8 @@ use lib.{Dec.eqb, IntN.natAbs, IntN.ℤ, ListN.length}
 use Rattle.funding.specs.Price.{largestPrice}
 use Rattle.calls.specs.declared.Call.the-variants as call
 use Rattle.calls.specs.{declared.Trade.Trade, Trade.mostQuantity}
-use Rattle.figures.specs.{declared.Figures.Figures, declared.Outcome.Outcome, Outcome.outcomeBy}
+use Rattle.figures.specs.{declared.Figures.Figures, declared.Outcome.Outcome}
+use Rattle.outcomes.specs.Outcome.{outcomeBy}
 use Rattle.columns.specs.{Columns.countAt, Columns.entry, Limits.mostPosition}
 use Rattle.trading.specs.Trading.{exchanged, counted, tradeRefusal}
 

@@ -5,7 +5,9 @@ use lib.{Dec.leb, Dec.ltb, IntN.ℤ, IntN.pos, IntN.negℤ}
 use Rattle.integers.specs.Size.{within}
 use Rattle.calls.specs.declared.Call.the-variants as call
 use Rattle.calls.specs.declared.Trade.{Trade}
-use Rattle.figures.specs.{declared.Figures.Figures, Refusals.Accounts, Refusals.firstMet, Refusals.sentences}
+use Rattle.figures.specs.declared.Figures.{Figures}
+use Rattle.refusals.specs.Refusals.{Accounts, firstMet}
+use Rattle.outcomes.specs.Outcome.{sentencesOn}
 use Rattle.columns.specs.{Columns.countAt, Columns.entry, Columns.raise, Columns.raiseCount, Limits.mostPosition, Limits.mostVolume}
 
 -- 01: "The buyer's position rises by the quantity and its cost by quantity × price; the seller's fall by the same": the seller's entry is read after the buyer's is written
@@ -35,4 +37,4 @@ accountsOf n position volume t = record {
 
 -- the number of a trade's refusal by a book within its limits, 0 where there is none
 abbrev pub tradeRefusal : ℕ → Figures → List ℤ → List ℕ → Trade → ℕ
-tradeRefusal n f position volume t = firstMet (sentences f (call.Trade t) (accountsOf n position volume t))
+tradeRefusal n f position volume t = firstMet (sentencesOn f (call.Trade t) (accountsOf n position volume t))

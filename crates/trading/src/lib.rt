@@ -26,7 +26,7 @@ fn trade_code(
     requires { ⌜ Exchangeable (now position) t mostPosition × Countable (now volume) t ⌝ }
     ensures { λ r. ⌜ r ≡ tradeRefusal accounts figures (now (position .entry)) (now (volume .entry)) t ⌝ }
 {
-    let code = figures.trade_code(t);
+    let code = refusals::trade_code(figures.closed, figures.halted, t);
     if code != 0 {
         return code;
     }
@@ -59,5 +59,5 @@ pub fn trade_on(
     exchange(position, t, quantity);
     count(volume, t);
     exchange(cost, t, quantity * t.price as u64);
-    figures.traded(t)
+    outcomes::traded(figures, t)
 }

@@ -7,7 +7,7 @@ use mir.Syntax.{w8}
 use mir.Val.{Fits}
 use borrow.Author.Tests.{lt-ltb, ne-eqb}
 use borrow.Author.Needs.{needs}
-use Rattle.figures.specs.Refusals.{firstMet}
+use Rattle.refusals.specs.Refusals.{firstMet}
 use Rattle.columns.specs.Columns.{accounts}
 use Rattle.trading.specs.Trading.{volumeStays, positionStays, accountsOf, tradeRefusal}
 use Rattle.trading.proofs.Passed.{trade-number}

@@ -7,9 +7,9 @@ use borrow.Author.Needs.{needs}
 use Rattle.funding.specs.Price.{largestPrice}
 use Rattle.calls.specs.declared.Call.the-variants as call
 use Rattle.calls.specs.Trade.{mostQuantity}
-use Rattle.figures.specs.Effects.{fixingOf}
-use Rattle.figures.proofs.Passed.{passed}
-use Rattle.figures.proofs.Outcomes.{refused-is, accepted-is}
+use Rattle.outcomes.specs.Effects.{fixingOf}
+use Rattle.outcomes.proofs.Passed.{passed-figures}
+use Rattle.outcomes.proofs.Outcomes.{refused-is, accepted-is}
 use Rattle.day.proofs.Keeping.{TradeFields, trade-fields}
 use Rattle.columns.specs.Columns.{accounts}
 use Rattle.trading.specs.Trading.{accountsOf}
@@ -20,7 +20,7 @@ use Rattle.trading.proofs.trade_on.Tie as tie
 fields : (c : tie.Else1) → TradeFields (c .before .before .before .before .args .t)
 fields c =
     let a = c .before .before .before .before .args in
-    trade-fields (a .t) (passed (a .figures) (call.Trade (a .t)) (accountsOf accounts (a .position .now) (a .volume .now) (a .t)) (sym (c .before .trade-code .ensures) ∙ c .if1 .left) .field)
+    trade-fields (a .t) (passed-figures (a .figures) (call.Trade (a .t)) (accountsOf accounts (a .position .now) (a .volume .now) (a .t)) (sym (c .before .trade-code .ensures) ∙ c .if1 .left) .field)
 
 product-most : (c : tie.Else1) → c .before .before .before .before .args .t .quantity * c .before .before .before .before .args .t .price ≤ mostQuantity * largestPrice
 product-most c = let f = fields c in omega (arith, f .high, f .quantity)

@@ -8,9 +8,9 @@ use borrow.Author.Needs.{needs}
 use Rattle.funding.specs.Terms.{clamp}
 use Rattle.funding.specs.Fixing.{rateOf, clampedTo}
 use Rattle.funding.proofs.Bounds.{amount-fits}
-use Rattle.figures.specs.Effects.{fixRate}
+use Rattle.figures.specs.Fixing.{fixRate}
 use Rattle.figures.specs.Figures.{tenth}
-use Rattle.figures.proofs.Keeping.{rate-size}
+use Rattle.figures.proofs.Rates.{rate-size}
 use Rattle.figures.proofs.Figures.fixing.Statement.{statement}
 use Rattle.figures.proofs.Figures.fixing.Tie as tie
 

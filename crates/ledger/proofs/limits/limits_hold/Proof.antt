@@ -7,7 +7,8 @@ use lib.Dec.{leb}
 use borrow.Author.Needs.{needs}
 use borrow.Author.Tests.{leb-true, not-true, not-false}
 use Rattle.funding.specs.Price.{noneOrPrice}
-use Rattle.figures.specs.Figures.{isSize, mostDays, figuresHold}
+use Rattle.figures.specs.Figures.{isSize, figuresHold}
+use Rattle.refusals.specs.Refusals.{mostDays}
 use Rattle.day.specs.Limits.{dayHolds}
 use Rattle.ledger.specs.Inner.{bookOf}
 use Rattle.ledger.proofs.Held.{held-account}

@@ -11,7 +11,7 @@ use Rattle.figures.proofs.Held.{figures-hold}
 use Rattle.columns.specs.Columns.{accounts}
 use Rattle.ledger.specs.declared.Book.{Book}
 use Rattle.ledger.proofs.Held.{held}
-use Rattle.ledger.proofs.Lent.{tradable, fixable, closable, step-within, on-figures, on-trade}
+use Rattle.ledger.proofs.Lent.{tradable, fixable, closable, step-within, on-figures, on-trade, on-close}
 use Rattle.ledger.proofs.step.step_on.Statement.{statement}
 use Rattle.ledger.proofs.step.step_on.Tie as tie
 
@@ -114,7 +114,7 @@ returns-6 c =
 returns-7 : tie.Need-returns-7
 returns-7 c =
     let s = c .before .before .before .before .before .before .before .before in
-    c .close-on .ensures ∙ step-within accounts (book s) call.Close (s .pre) ∙ ap (step accounts (book s)) (sym (c .before .before .before .before .before .before .enum-told3 .given .1))
+    on-close accounts (book s) (c .close-on .ensures) ∙ step-within accounts (book s) call.Close (s .pre) ∙ ap (step accounts (book s)) (sym (c .before .before .before .before .before .before .enum-told3 .given .1))
 
 pub step-on-spec : {M : Type 1} → statement M
 step-on-spec =

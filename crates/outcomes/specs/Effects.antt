@@ -1,0 +1,45 @@
+-- What an accepted call does to the figures: document 01, "A trade date, call by call".
+use mathlib.Core.Bool.{Bool, true, false}
+use Prim.Native.Nat.{ℕ, _+_}
+use Rattle.day.specs.{declared.Fixed.Fixed, declared.Day.Day, Day.noMarkets, Day.emptyDay}
+use Rattle.day.specs.Effects.{withMarkets, withMinutes, withTrades, withFixed, quoted, traded, minuteEnded, nextMinute}
+use Rattle.figures.specs.{declared.Figures.Figures, declared.Fixing.Fixing, Figures.termsOn, Fixing.noFixing, Fixing.fixPrice, Fixing.fixAmount, Fixing.fixingAt}
+use Rattle.calls.specs.declared.Call.the-variants as call
+use Rattle.calls.specs.{declared.Call.Call, Calls.onFix, Market.isValid}
+
+abbrev pub withDay : Figures → Bool → Day → Figures
+withDay f halted d = record { size = f .size; closed = f .closed; halted = halted; previous = f .previous; day = d }
+
+-- ---- a fix and a close
+
+-- 01: "The day is then fixed, with P as its fixed price and this as its fixed amount"
+abbrev pub fixedAt : Figures → ℕ → Fixed
+fixedAt f set = record { price = fixPrice f set; amount = fixAmount f set }
+
+-- 01: "P and the day's index become the previous ones, … closed days rise by 1, and the day's figures … start empty. A halt carries over"
+abbrev pub closedFigures : Figures → Figures
+closedFigures f = record {
+  size = f .size;
+  closed = f .closed + 1;
+  halted = f .halted;
+  previous = record { price = f .day .fixed .price; index = f .day .minutes .index };
+  day = emptyDay;
+}
+
+-- ---- the figures after an accepted call
+
+-- 01: "a halt removes the market and the minute's market. Resuming restores neither"
+unfoldable pub figuresAfter : Figures → Call → Figures
+figuresAfter f (call.Quote m) = withDay f (f .halted) (withMarkets (f .day) (quoted (f .day .markets) m))
+figuresAfter f (call.Trade t) = withDay f (f .halted) (withTrades (f .day) (traded (f .day) t))
+figuresAfter f call.Halt = withDay f true (withMarkets (f .day) noMarkets)
+figuresAfter f call.Resume = withDay f false (f .day)
+figuresAfter f (call.MinuteEnd u) =
+    let valid = isValid (termsOn f) (f .halted) (f .day .markets .minute) u in
+    withDay f (f .halted) (withMinutes (withMarkets (f .day) (nextMinute (f .day .markets))) (minuteEnded (f .day) valid u))
+figuresAfter f (call.Fix set) = withDay f (f .halted) (withFixed (f .day) (fixedAt f set))
+figuresAfter f call.Close = closedFigures f
+
+-- what the answer to an accepted call says of a fix
+unfoldable pub fixingOf : Figures → Call → Fixing
+fixingOf f = onFix (fixingAt f) noFixing
