@@ -1,6 +1,6 @@
 -- What a fix finds: document 01, "A trade date, call by call".
 use Prim.Native.Nat.{ℕ, _*_, _≤_}
-use lib.IntN.{ℤ, pos}
+use lib.IntN.{ℤ}
 use Rattle.funding.specs.{Price.largestPrice, Fixing.rateOf, Fixing.clampedTo, Fixing.amountOf, Fixing.settlementPrice}
 use Rattle.figures.specs.{declared.Figures.Figures, declared.Fixing.Fixing, Figures.termsOn, Figures.tieOn, Figures.tenth}
 
@@ -16,10 +16,6 @@ fixAmount f set = amountOf (tieOn f) (fixRate f) (fixPrice f set) (f .size)
 
 abbrev pub fixingAt : Figures → ℕ → Fixing
 fixingAt f set = record { price = fixPrice f set; rate = fixRate f; amount = fixAmount f set; valid = f .day .minutes .valid }
-
--- what any other call finds
-abbrev pub noFixing : Fixing
-noFixing = record { price = 0; rate = pos 0; amount = pos 0; valid = 0 }
 
 -- the figures of a fix fit: required by it, and had by figures within their limits
 pub record Fixable (f : Figures) : Type 0 where

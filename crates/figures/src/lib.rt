@@ -1,8 +1,7 @@
 // The figures of a book: all that it holds beside its account columns.
 ghost use mathlib.Core.Path.{_≡_};
-ghost use Rattle.figures.specs.Figures.{termsOn, tieOn, figuresHold};
-ghost use Rattle.figures.specs.Fixing.{noFixing, fixingAt, Fixable};
-ghost use Rattle.figures.specs.Outcome.{numbered};
+ghost use Rattle.figures.specs.Figures.{termsOn, tieOn, noFixing, numbered, figuresHold};
+ghost use Rattle.figures.specs.Fixing.{fixingAt, Fixable};
 use day::Day;
 use funding::Previous;
 use funding::Terms;

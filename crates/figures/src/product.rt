@@ -1,8 +1,7 @@
 // The two products and their fixed numbers, and the figures of an opening.
 ghost use mathlib.Core.Path.{_≡_};
 ghost use Rattle.funding.specs.Terms.{standardTerms};
-ghost use Rattle.figures.specs.Figures.{hundredth, tenth, isSize, freshFigures};
-ghost use Rattle.figures.specs.Outcome.{numbered, opened};
+ghost use Rattle.figures.specs.Figures.{hundredth, tenth, isSize, freshFigures, numbered, opened};
 use crate::Figures;
 use crate::Outcome;
 use day::Day;

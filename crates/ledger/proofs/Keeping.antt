@@ -29,7 +29,7 @@ use Rattle.ledger.specs.Effects.{withFigures, effect}
 use Rattle.ledger.specs.Refusals.{refusal, withinLimits}
 use Rattle.ledger.specs.Inner.{WithinLimits}
 use Rattle.ledger.specs.Step.{isAccepted, step, run, fresh, opening}
-use Rattle.ledger.specs.Keeping.{Shaped, FreshShaped, ShapeKept, FreshWithin, LimitsKept, RunWithin, NeverBeyond, RefusedBeyond}
+use Rattle.ledger.specs.Keeping.{Shaped, LimitsKept, RunWithin, NeverBeyond, RefusedBeyond}
 use Rattle.figures.specs.declared.Figures.{Figures}
 use Rattle.ledger.specs.declared.Book.{Book}
 use Rattle.ledger.proofs.Held.{Held, held, holds}
@@ -39,14 +39,14 @@ use Rattle.ledger.proofs.KeepingClose.{no-trades, fresh-held, closed-ac
 
 -- ---- the columns' lengths
 
-pub fresh-shaped : FreshShaped
+pub fresh-shaped : (n s : ℕ) → Shaped n (fresh n s)
 fresh-shaped n s =
     record { opening = length-replicate n _; position = length-replicate n _; cost = length-replicate n _; volume = length-replicate n _; cash = length-replicate n _ }
 
 same-columns : (n : ℕ) (b : Book) (f : Figures) → Shaped n b → Shaped n (withFigures b f)
 same-columns n b f s = record { opening = s .opening; position = s .position; cost = s .cost; volume = s .volume; cash = s .cash }
 
-pub shape-kept : ShapeKept
+pub shape-kept : (n : ℕ) (b : Book) (c : Call) → Shaped n b → Shaped n (effect n b c)
 unfolding effect
 shape-kept n b (call.Quote m) s = same-columns n b (figuresAfter (b .figures) (call.Quote m)) s
 shape-kept n b (call.Trade t) s =
@@ -81,7 +81,7 @@ module _ (n : ℕ) (b : Book) (h : Held n b) where
 pub limits-kept : LimitsKept
 limits-kept n b c s r = let p = passed n b c r in holds n (effect n b c) (kept n b (held n b (p .limits)) c s p)
 
-pub fresh-within : FreshWithin
+pub fresh-within : (n s : ℕ) → isSize s ≡ true → withinLimits n (fresh n s) ≡ true
 fresh-within n s h = holds n (fresh n s) (fresh-held n s h)
 
 -- ---- a list of calls

@@ -28,11 +28,12 @@ use Rattle.trading.specs.Trading.{exchanged, counted, tradeRefusal}
 use Rattle.trading.specs.Inner.{Tradable, TradeAnswered}
 use Rattle.ledger.specs.Effects.{withFigures, effect}
 use Rattle.ledger.specs.Refusals.{sentencesOf, refusal}
-use Rattle.ledger.specs.Step.{step}
-use Rattle.ledger.specs.Inner.{bookOf, answerOf, answered, WithinLimits}
+use Rattle.ledger.specs.Step.{answerBy, step}
+use Rattle.ledger.specs.Inner.{bookOf, answerOf, WithinLimits}
 use Rattle.figures.specs.declared.Figures.{Figures}
 use Rattle.figures.specs.declared.Outcome.{Outcome}
 use Rattle.ledger.specs.declared.Book.{Book}
+use Rattle.ledger.specs.declared.Answer.{Answer}
 use Rattle.ledger.proofs.Held.{Held, held, contracts-most}
 
 module _ (b : Book) (w : WithinLimits accounts b) where
@@ -70,6 +71,10 @@ module _ (b : Book) (w : WithinLimits accounts b) where
         postable = λ j h. record { figures = f; opening-size = holds .account j h .opening; position-size = holds .account j h .position; cost-size = cost-most j h };
         cash-size = λ j h. omega (arith, holds .account j h .cash, holds .figures .closed);
       }
+
+-- what a call on a book within its limits is answered
+abbrev pub answered : ℕ → Book → Call → Answer
+answered n b c = answerBy (firstMet (sentencesOf n b c)) n b c
 
 pub step-within : (n : ℕ) (b : Book) (c : Call) → WithinLimits n b → answered n b c ≡ step n b c
 unfolding step refusal

@@ -3,20 +3,14 @@
 use mathlib.Core.{Path._≡_, Bool.true, List.List}
 use Prim.Native.Nat.{ℕ}
 use lib.IntN.{ℤ}
-use Rattle.calls.specs.declared.Call.{Call}
-use Rattle.refusals.specs.Refusals.{firstMet}
 use Rattle.figures.specs.{declared.Figures.Figures, declared.Outcome.Outcome}
-use Rattle.ledger.specs.{Refusals.sentencesOf, Refusals.withinLimits, Step.answerBy, Keeping.Shaped, declared.Book.Book, declared.Answer.Answer}
+use Rattle.ledger.specs.{Refusals.withinLimits, Keeping.Shaped, declared.Book.Book, declared.Answer.Answer}
 
 abbrev pub bookOf : Figures → List ℤ → List ℤ → List ℤ → List ℕ → List ℤ → Book
 bookOf f opening position cost volume cash = record { figures = f; opening = opening; position = position; cost = cost; volume = volume; cash = cash }
 
 abbrev pub answerOf : Outcome → List ℤ → List ℤ → List ℤ → List ℕ → List ℤ → Answer
 answerOf r opening position cost volume cash = record { code = r .code; fixing = r .fixing; book = bookOf (r .figures) opening position cost volume cash }
-
--- what a call on a book within its limits is answered
-abbrev pub answered : ℕ → Book → Call → Answer
-answered n b c = answerBy (firstMet (sentencesOf n b c)) n b c
 
 -- what is required of any call: a book of n accounts that is within its limits
 pub record WithinLimits (n : ℕ) (b : Book) : Type 0 where

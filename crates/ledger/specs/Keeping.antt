@@ -4,8 +4,7 @@ use mathlib.Core.{Path._≡_, Bool.true, List.List}
 use Prim.Native.Nat.{ℕ}
 use lib.ListN.{length}
 use Rattle.calls.specs.declared.Call.{Call}
-use Rattle.figures.specs.Figures.{isSize}
-use Rattle.ledger.specs.{declared.Book.Book, Effects.effect, Refusals.refusal, Refusals.withinLimits, Step.fresh, Step.opening, Step.run, Step.reportRefusal}
+use Rattle.ledger.specs.{declared.Book.Book, Effects.effect, Refusals.refusal, Refusals.withinLimits, Step.opening, Step.run, Step.reportRefusal}
 
 -- each column has an entry for each of n accounts
 pub record Shaped (n : ℕ) (b : Book) : Type 0 where
@@ -15,17 +14,7 @@ pub record Shaped (n : ℕ) (b : Book) : Type 0 where
   pub volume : length (b .volume) ≡ n
   pub cash : length (b .cash) ≡ n
 
--- a fresh book is so, and a call, whatever it is, leaves it so
-abbrev pub FreshShaped : Type 0
-FreshShaped = (n s : ℕ) → Shaped n (fresh n s)
-
-abbrev pub ShapeKept : Type 0
-ShapeKept = (n : ℕ) (b : Book) (c : Call) → Shaped n b → Shaped n (effect n b c)
-
--- a fresh book is within its limits, and an accepted call leaves it within them
-abbrev pub FreshWithin : Type 0
-FreshWithin = (n s : ℕ) → isSize s ≡ true → withinLimits n (fresh n s) ≡ true
-
+-- an accepted call leaves a book within its limits
 abbrev pub LimitsKept : Type 0
 LimitsKept = (n : ℕ) (b : Book) (c : Call) → Shaped n b → refusal n b c ≡ 0 → withinLimits n (effect n b c) ≡ true
 

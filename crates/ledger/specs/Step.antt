@@ -4,7 +4,7 @@ use Prim.Native.Nat.{ℕ}
 use lib.{Dec.eqb, IntN.pos, IntN.ℤ, ListN.replicate}
 use Rattle.integers.specs.Lists.{keepIf}
 use Rattle.calls.specs.declared.Call.{Call}
-use Rattle.figures.specs.{Fixing.noFixing, Figures.freshFigures, Outcome.opened, declared.Figures.Figures}
+use Rattle.figures.specs.{Figures.freshFigures, Figures.noFixing, Figures.opened, declared.Figures.Figures}
 use Rattle.outcomes.specs.Effects.{fixingOf}
 use Rattle.refusals.specs.Refusals.{firstMet}
 use Rattle.ledger.specs.{declared.Book.Book, declared.Answer.Answer, Effects.effect, Refusals.refusal, Refusals.withinLimits}

@@ -9,7 +9,7 @@ use Rattle.calls.specs.declared.Call.{Call}
 use Rattle.figures.specs.declared.Figures.{Figures}
 use Rattle.figures.specs.declared.Outcome.{Outcome}
 use Rattle.outcomes.specs.Effects.{figuresAfter, fixingOf}
-use Rattle.figures.specs.Outcome.{numbered}
+use Rattle.figures.specs.Figures.{numbered}
 use Rattle.outcomes.specs.Outcome.{outcomeBy}
 
 module _ (f : Figures) (c : Call) {number code : ℕ} (is : code ≡ number) where

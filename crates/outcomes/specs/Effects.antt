@@ -3,7 +3,7 @@ use mathlib.Core.Bool.{Bool, true, false}
 use Prim.Native.Nat.{ℕ, _+_}
 use Rattle.day.specs.{declared.Fixed.Fixed, declared.Day.Day, Day.noMarkets, Day.emptyDay}
 use Rattle.day.specs.Effects.{withMarkets, withMinutes, withTrades, withFixed, quoted, traded, minuteEnded, nextMinute}
-use Rattle.figures.specs.{declared.Figures.Figures, declared.Fixing.Fixing, Figures.termsOn, Fixing.noFixing, Fixing.fixPrice, Fixing.fixAmount, Fixing.fixingAt}
+use Rattle.figures.specs.{declared.Figures.Figures, declared.Fixing.Fixing, Figures.termsOn, Figures.noFixing, Fixing.fixPrice, Fixing.fixAmount, Fixing.fixingAt}
 use Rattle.calls.specs.declared.Call.the-variants as call
 use Rattle.calls.specs.{declared.Call.Call, Calls.onFix, Market.isValid}
 

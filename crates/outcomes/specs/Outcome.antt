@@ -5,7 +5,7 @@ use lib.Dec.{eqb}
 use Rattle.calls.specs.{declared.Call.Call, Calls.onMinuteEnd, Calls.onFix, Calls.onClose}
 use Rattle.refusals.specs.Refusals.{Accounts, noAccounts, sentences, firstMet}
 use Rattle.day.specs.{declared.Day.Day, Day.isFixed, Day.forbidsFix, Day.forbidsMinuteEnd, Limits.finalHolds}
-use Rattle.figures.specs.{declared.Figures.Figures, declared.Outcome.Outcome, Fixing.noFixing, Fixing.fixPrice, Figures.figuresHold}
+use Rattle.figures.specs.{declared.Figures.Figures, declared.Outcome.Outcome, Figures.noFixing, Figures.figuresHold, Fixing.fixPrice}
 use Rattle.outcomes.specs.Effects.{figuresAfter, fixingOf}
 
 -- 3: "a minute end after 1,320 or after a fix; a fix before 1,320 or twice; a close without a fix"

@@ -3,8 +3,7 @@ use mathlib.Core.{Bool.Bool, Bool.false, Bool.not, Bool.cond, Bool._&&_, Bool._|
 use Prim.Native.Nat.{ℕ}
 use lib.Dec.{leb}
 use Rattle.funding.specs.Price.{isPresent, noneOrPrice, noneOrTicked}
-use Rattle.calls.specs.{declared.Call.Call, Calls.onQuote, Calls.onTrade, Calls.onHalt, Calls.onResume, Calls.onMinuteEnd, Calls.onFix, Trade.tradeOutside}
-use Rattle.calls.specs.Market.{uncrossed}
+use Rattle.calls.specs.{declared.Call.Call, Calls.onQuote, Calls.onTrade, Calls.onHalt, Calls.onResume, Calls.onMinuteEnd, Calls.onFix, Market.uncrossed, Trade.tradeOutside}
 
 -- 01: "closed days 0 to 2,600"
 abbrev pub mostDays : ℕ
