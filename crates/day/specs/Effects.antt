@@ -4,8 +4,7 @@ use Prim.Native.Nat.{ℕ, _+_}
 use lib.IntN.{ℤ}
 use Rattle.funding.specs.Minute.{basisOf, accrued}
 use Rattle.calls.specs.{declared.Market.Market, declared.Trade.Trade, Market.noMarket, Market.asMinute}
-use Rattle.day.specs.declared.{Minutes.Minutes, Markets.Markets, Trades.Trades, Fixed.Fixed, Day.Day}
-use Rattle.day.specs.Day.{dayLength, inLastMinute, isFinal, withTrade, minuteOf}
+use Rattle.day.specs.{declared.Minutes.Minutes, declared.Markets.Markets, declared.Trades.Trades, declared.Fixed.Fixed, declared.Day.Day, Day.dayLength, Day.inLastMinute, Day.isFinal, Day.withTrade, Day.minuteOf}
 
 -- ---- a part of a day, changed
 

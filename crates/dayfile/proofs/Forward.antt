@@ -10,10 +10,11 @@ use borrow.Author.Tests.{ltb-false}
 use lib.ListN.{length}
 use lib.Dec.{ltb, leb, eqb}
 use Rattle.integers.proofs.Tests.{by-test}
-use Rattle.dayfile.specs.declared.Tagged.{Tagged}
-use Rattle.dayfile.specs.declared.Tagged.the-variants as tagged
+use Rattle.bodies.specs.declared.Tagged.{Tagged}
+use Rattle.bodies.specs.declared.Tagged.the-variants as tagged
+use Rattle.bodies.specs.Body.{byteAt, tagOf, bodyLength}
 use Rattle.dayfile.specs.declared.Read.{Read}
-use Rattle.dayfile.specs.Record.{byteAt, tagOf, bodyLength, statedLength, nextAt, complete, readAt, Onward, Forward}
+use Rattle.dayfile.specs.Record.{statedLength, nextAt, complete, readAt, Onward, Forward}
 
 complete-onward : (file : List ℕ) (at : ℕ) (t : Tagged) → nextAt file at ≤ length file → Onward file at (complete file at t)
 complete-onward file at tagged.Unknown h = (omega arith, h)

@@ -15,12 +15,13 @@ use borrow.Author.Tests.{leb-true, eqb-true, le-leb, lt-leb, lt-ltb, le-ltb, eq-
 use lib.Dec.{leb, ltb, eqb}
 use lib.ListN.{length}
 use Rattle.integers.proofs.Tests.{tests, both-true}
-use Rattle.dayfile.specs.declared.Tag.{Tag}
-use Rattle.dayfile.specs.declared.Tag.the-variants as tag
-use Rattle.dayfile.specs.declared.Tagged.{Tagged}
-use Rattle.dayfile.specs.declared.Tagged.the-variants as tagged
+use Rattle.bodies.specs.declared.Tag.{Tag}
+use Rattle.bodies.specs.declared.Tag.the-variants as tag
+use Rattle.bodies.specs.declared.Tagged.{Tagged}
+use Rattle.bodies.specs.declared.Tagged.the-variants as tagged
+use Rattle.bodies.specs.Body.{byteAt, tagOf, byteOf, bodyLength, callOf}
 use Rattle.dayfile.specs.declared.Read.the-variants as read
-use Rattle.dayfile.specs.Record.{byteAt, tagOf, byteOf, isRecordAt, bodyLength, callOf, bodyAt, statedLength, nextAt, complete, readAt, readNumber, isWrongLength, recordRefusal}
+use Rattle.dayfile.specs.Record.{isRecordAt, bodyAt, statedLength, nextAt, complete, readAt, readNumber, isWrongLength, recordRefusal}
 
 module _ (file : List ℕ) (at : ℕ) where
   pub at-end : length file ≤ at → readAt file at ≡ read.End

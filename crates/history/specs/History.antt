@@ -5,9 +5,7 @@ use Prim.Native.Nat.{ℕ}
 use lib.ListN.{length}
 use Rattle.integers.specs.{declared.Tie.Tie, declared.Tie.the-variants.Even, Lists.keepIf}
 use Rattle.funding.specs.{declared.Terms.Terms, Terms.standardTerms, Minute.Minute, Minute.mostMinutes}
-use Rattle.calls.specs.declared.{Market.Market, Trade.Trade, Call.Call}
-use Rattle.calls.specs.Calls.{onQuote, onTrade, onHalt, onResume, onMinuteEnd, onFix, onClose}
-use Rattle.calls.specs.Market.{noMarket, asMinute, isValid}
+use Rattle.calls.specs.{declared.Market.Market, declared.Trade.Trade, declared.Call.Call, Market.noMarket, Market.asMinute, Market.isValid, Calls.onQuote, Calls.onTrade, Calls.onHalt, Calls.onResume, Calls.onMinuteEnd, Calls.onFix, Calls.onClose}
 use Rattle.day.specs.Day.{isFinal, minuteOf}
 
 abbrev pub History : Type 0

@@ -31,8 +31,6 @@ crossed = onQuote (λ m. not (uncrossed m)) false
 abbrev pub unpriced : ℕ → Call → Bool
 unpriced price = onFix (λ set. not (isPresent price)) false
 
--- ---- the one list of them
-
 -- what the account columns say of a call: an account that isn't there, and sentences 7 and 8
 pub record Accounts : Type 0 where
   pub missing : Bool

@@ -7,9 +7,10 @@ use lib.Dec.{leb}
 use lib.ListN.{length}
 use borrow.Author.Tests.{le-leb, lt-leb, eq-eqb, ne-eqb}
 use borrow.Author.Needs.{needs}
-use Rattle.dayfile.specs.declared.Tag.{Tag}
-use Rattle.dayfile.specs.declared.Tag.the-variants as tag
-use Rattle.dayfile.specs.Record.{byteAt, byteOf, bodyLength, bodyAt}
+use Rattle.bodies.specs.declared.Tag.{Tag}
+use Rattle.bodies.specs.declared.Tag.the-variants as tag
+use Rattle.bodies.specs.Body.{byteAt, byteOf, bodyLength}
+use Rattle.dayfile.specs.Record.{bodyAt}
 use Rattle.dayfile.proofs.is_record_at.Statement.{statement}
 use Rattle.dayfile.proofs.is_record_at.Tie as tie
 

@@ -8,8 +8,9 @@ use lib.ListN as lists
 use borrow.Author.Needs.{needs}
 use Rattle.dayfile.proofs.Calls.{calls-at-known}
 use Rattle.dayfile.proofs.Reading.{record-at, known-at}
-use Rattle.dayfile.specs.declared.Tag.the-variants as tag
-use Rattle.dayfile.specs.Record.{fourBytes, isRecordAt}
+use Rattle.bodies.specs.declared.Tag.the-variants as tag
+use Rattle.bodies.specs.Body.{fourBytes}
+use Rattle.dayfile.specs.Record.{isRecordAt}
 use Rattle.ledger.specs.declared.Book.{Book}
 use Rattle.calls.specs.declared.Call.the-variants as call
 use Rattle.calls.specs.declared.Call.{Call}

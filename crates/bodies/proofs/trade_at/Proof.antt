@@ -1,7 +1,7 @@
--- `dayfile::trade_at` meets its contract. Assumes nothing.
+-- `bodies::trade_at` meets its contract. Assumes nothing.
 use borrow.Author.Needs.{needs}
-use Rattle.dayfile.proofs.trade_at.Statement.{statement}
-use Rattle.dayfile.proofs.trade_at.Tie as tie
+use Rattle.bodies.proofs.trade_at.Statement.{statement}
+use Rattle.bodies.proofs.trade_at.Tie as tie
 
 shared-slice-read-t4 : tie.Need-shared-slice-read-t4
 shared-slice-read-t4 c = search needs

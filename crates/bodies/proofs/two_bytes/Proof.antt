@@ -1,10 +1,10 @@
--- `dayfile::two_bytes` meets its contract: a byte is below 256. Assumes nothing.
+-- `bodies::two_bytes` meets its contract: a byte is below 256. Assumes nothing.
 use Prim.Native.Nat.{_+_}
 use mathlib.Core.Path.{refl}
 use native.Mathlib.Omega.{arith}
 use borrow.Author.Needs.{needs}
-use Rattle.dayfile.proofs.two_bytes.Statement.{statement}
-use Rattle.dayfile.proofs.two_bytes.Tie as tie
+use Rattle.bodies.proofs.two_bytes.Statement.{statement}
+use Rattle.bodies.proofs.two_bytes.Tie as tie
 
 shared-slice-read-high : tie.Need-shared-slice-read-high
 shared-slice-read-high c = search needs

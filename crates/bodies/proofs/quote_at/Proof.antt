@@ -1,7 +1,7 @@
--- `dayfile::quote_at` meets its contract. Assumes nothing.
+-- `bodies::quote_at` meets its contract. Assumes nothing.
 use borrow.Author.Needs.{needs}
-use Rattle.dayfile.proofs.quote_at.Statement.{statement}
-use Rattle.dayfile.proofs.quote_at.Tie as tie
+use Rattle.bodies.proofs.quote_at.Statement.{statement}
+use Rattle.bodies.proofs.quote_at.Tie as tie
 
 four-bytes-requires : tie.Need-four-bytes-requires
 four-bytes-requires c κs = search needs

@@ -1,8 +1,8 @@
--- `dayfile::tag_of` meets its contract. Assumes nothing.
+-- `bodies::tag_of` meets its contract. Assumes nothing.
 use borrow.Author.Tests.{ne-eqb}
-use Rattle.dayfile.specs.Record.{tagOf}
-use Rattle.dayfile.proofs.tag_of.Statement.{statement}
-use Rattle.dayfile.proofs.tag_of.Tie as tie
+use Rattle.bodies.specs.Body.{tagOf}
+use Rattle.bodies.proofs.tag_of.Statement.{statement}
+use Rattle.bodies.proofs.tag_of.Tie as tie
 
 returns : tie.Need-returns
 unfolding tagOf

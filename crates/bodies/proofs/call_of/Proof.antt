@@ -1,10 +1,10 @@
--- `dayfile::call_of` meets its contract. Assumes nothing.
+-- `bodies::call_of` meets its contract. Assumes nothing.
 use mathlib.Core.Path.{ap}
 use native.Mathlib.Omega.{arith}
 use borrow.Author.Needs.{needs}
-use Rattle.dayfile.specs.Record.{bodyLength}
-use Rattle.dayfile.proofs.call_of.Statement.{statement}
-use Rattle.dayfile.proofs.call_of.Tie as tie
+use Rattle.bodies.specs.Body.{bodyLength}
+use Rattle.bodies.proofs.call_of.Statement.{statement}
+use Rattle.bodies.proofs.call_of.Tie as tie
 
 enum-told : tie.Need-enum-told
 enum-told c = search needs
