@@ -22,13 +22,13 @@ pub const MOST_AMOUNT: u64 = 10_000;
 
 // What minute ends set.
 pub struct Minutes {
-    // ended minutes
-    pub ended: u32,
-    // valid count k, and weighted sum S
-    pub valid: u32,
-    pub weighted: i64,
     // the u of the last minute
     pub index: u32,
+    // weighted sum S, and valid count k
+    pub weighted: i64,
+    pub valid: u32,
+    // ended minutes
+    pub ended: u32,
 }
 
 // What quotes and halts set: the standing market and the minute's market.
