@@ -10,7 +10,6 @@ use Rattle.integers.specs.Lists.{Every}
 use Rattle.integers.proofs.Tests.{both-false}
 use Rattle.funding.specs.Price.{isPresent}
 use Rattle.calls.specs.declared.Call.the-variants as call
-use Rattle.calls.specs.declared.Call.{Call}
 use Rattle.calls.specs.Calls.{onClose}
 use Rattle.calls.proofs.Calls.{FixOr, CloseOr, fix, close, fix-or, close-or, on-close-is}
 use Rattle.figures.specs.Fixing.{fixPrice}

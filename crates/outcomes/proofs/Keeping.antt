@@ -1,11 +1,10 @@
 -- An accepted call leaves figures within their limits: the statement of specs/Outcome.antt.
---     accrues                 what the weighted sum of a valid minute requires
 --     price-at, amount-at     the price and the amount of a fix
---     trade-fields            what refusal 5 leaves of a trade's values
---     figures-kept            every call
+--     held-after              every call, from what it passed
+--     figures-kept            the same, from the tests
 -- Assumes nothing.
 use mathlib.Core.Path.{_≡_, refl, _∙_, ap}
-use mathlib.Core.Bool.{true, false, not, _&&_, _||_, or-true}
+use mathlib.Core.Bool.{true, not, _&&_, _||_, or-true}
 use mathlib.Core.List.{[], _∷_}
 use Prim.Native.Nat.{ℕ, _≤_}
 use native.Mathlib.Omega.{arith}
@@ -15,9 +14,8 @@ use borrow.Author.Tests.{eq-eqb, not-false}
 use Rattle.integers.proofs.Tests.{tests, _and_, each, none}
 use Rattle.funding.specs.Price.{largestPrice, isPresent, noneOrPrice, noneOrTicked}
 use Rattle.funding.specs.Terms.{clamp}
-use Rattle.funding.specs.Fixing.{rateOf}
 use Rattle.funding.proofs.Prices.{none-or-price, price-most}
-use Rattle.funding.proofs.Bounds.{clamped-size, amount-size, settlement-is-price}
+use Rattle.funding.proofs.Bounds.{amount-size, settlement-is-price}
 use Rattle.day.specs.declared.Day.{Day}
 use Rattle.figures.specs.declared.Figures.{Figures}
 use Rattle.calls.specs.declared.Call.the-variants as call
@@ -32,7 +30,6 @@ use Rattle.outcomes.specs.Effects.{fixedAt, figuresAfter}
 use Rattle.figures.specs.Fixing.{fixPrice, fixRate, fixAmount}
 use Rattle.day.specs.Limits.{mostAmount, marketsHold}
 use Rattle.refusals.specs.Refusals.{noAccounts, Accounts}
-use Rattle.outcomes.specs.Outcome.{dayForbids}
 use Rattle.outcomes.specs.Outcome.{FiguresKept}
 use Rattle.day.proofs.Held.{HeldDay, HeldFinal, held-final}
 use Rattle.figures.proofs.Rates.{rate-size}
