@@ -1,4 +1,4 @@
--- The tags of records, and the calls that their bodies bring: document 01's format.
+-- The tags of records, and the calls that their bodies bring: document 01's format, and document 02's records.
 use Prim.Native.Nat.{ℕ, _+_, _*_}
 use mathlib.Core.{List.List, Bool.cond}
 use lib.{ListN.getD, Dec.eqb}
@@ -20,7 +20,7 @@ abbrev pub fourBytes : List ℕ → ℕ → ℕ
 fourBytes file at = twoBytes file at * 65536 + twoBytes file (at + 2)
 
 -- 01: "Tag 1 trade: buyer 1 byte, seller 1, kind 1, quantity 4, price 4. Tag 2 quote: bid 4, offer 4. Tag 3 minute end: 4.
--- Tag 4 halt, 5 resume, 7 close: 0 bytes. Tag 6 fix: 4. Other tags are unknown."
+-- Tag 4 halt, 5 resume, 7 close: 0 bytes. Tag 6 fix: 4. Other tags are unknown."; 02-1: "tag 8 with a two-byte length of day"
 abbrev pub byteOf : Tag → ℕ
 byteOf tag.Trade = 1
 byteOf tag.Quote = 2
@@ -29,6 +29,7 @@ byteOf tag.Halt = 4
 byteOf tag.Resume = 5
 byteOf tag.Fix = 6
 byteOf tag.Close = 7
+byteOf tag.DayLength = 8
 
 -- the tag whose byte this is
 unfoldable pub tagOf : ℕ → Tagged
@@ -40,7 +41,8 @@ tagOf byte =
     (cond (eqb byte (byteOf tag.Resume)) (tagged.Known tag.Resume)
     (cond (eqb byte (byteOf tag.Fix)) (tagged.Known tag.Fix)
     (cond (eqb byte (byteOf tag.Close)) (tagged.Known tag.Close)
-    tagged.Unknown))))))
+    (cond (eqb byte (byteOf tag.DayLength)) (tagged.Known tag.DayLength)
+    tagged.Unknown)))))))
 
 -- the bytes of each tag's body, added up
 abbrev pub bodyLength : Tag → ℕ
@@ -51,6 +53,7 @@ bodyLength tag.Halt = 0
 bodyLength tag.Resume = 0
 bodyLength tag.Fix = 4
 bodyLength tag.Close = 0
+bodyLength tag.DayLength = 2
 
 -- the trade, the quote and the call whose body starts at a place
 abbrev pub tradeAt : List ℕ → ℕ → Trade
@@ -73,3 +76,4 @@ callOf file tag.Halt body = call.Halt
 callOf file tag.Resume body = call.Resume
 callOf file tag.Fix body = call.Fix (fourBytes file body)
 callOf file tag.Close body = call.Close
+callOf file tag.DayLength body = call.DayLength (twoBytes file body)

@@ -16,6 +16,7 @@ pub enum Tag {
     Resume,
     Fix,
     Close,
+    DayLength,
 }
 
 pub enum Tagged {
@@ -52,6 +53,7 @@ pub fn tag_of(byte: u8) -> Tagged
         5 => Tagged::Known(Tag::Resume),
         6 => Tagged::Known(Tag::Fix),
         7 => Tagged::Known(Tag::Close),
+        8 => Tagged::Known(Tag::DayLength),
         _ => Tagged::Unknown,
     }
 }
@@ -68,6 +70,7 @@ pub fn body_length(tag: Tag) -> usize
         Tag::Resume => 0,
         Tag::Fix => 4,
         Tag::Close => 0,
+        Tag::DayLength => 2,
     }
 }
 
@@ -107,6 +110,7 @@ pub fn call_of(file: &[u8], tag: Tag, body: usize) -> Call
         Tag::Resume => Call::Resume,
         Tag::Fix => Call::Fix(four_bytes(file, body)),
         Tag::Close => Call::Close,
+        Tag::DayLength => Call::DayLength(two_bytes(file, body) as u32),
     }
 }
 
@@ -122,5 +126,6 @@ pub fn byte_of(tag: Tag) -> u8
         Tag::Resume => 5,
         Tag::Fix => 6,
         Tag::Close => 7,
+        Tag::DayLength => 8,
     }
 }

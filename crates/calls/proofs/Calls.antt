@@ -29,6 +29,7 @@ trade-or call.Resume = other (λ A f o. refl)
 trade-or (call.MinuteEnd u) = other (λ A f o. refl)
 trade-or (call.Fix set) = other (λ A f o. refl)
 trade-or call.Close = other (λ A f o. refl)
+trade-or (call.DayLength l) = other (λ A f o. refl)
 
 pub fix-or : (c : Call) → FixOr c
 fix-or (call.Quote m) = other (λ A f o. refl)
@@ -38,6 +39,7 @@ fix-or call.Resume = other (λ A f o. refl)
 fix-or (call.MinuteEnd u) = other (λ A f o. refl)
 fix-or (call.Fix set) = fix set refl
 fix-or call.Close = other (λ A f o. refl)
+fix-or (call.DayLength l) = other (λ A f o. refl)
 
 pub close-or : (c : Call) → CloseOr c
 close-or (call.Quote m) = other (λ A x o. refl)
@@ -47,6 +49,7 @@ close-or call.Resume = other (λ A x o. refl)
 close-or (call.MinuteEnd u) = other (λ A x o. refl)
 close-or (call.Fix set) = other (λ A x o. refl)
 close-or call.Close = close refl
+close-or (call.DayLength l) = other (λ A x o. refl)
 
 module _ {A : Type 0} (P : A → Type 0) where
   pub on-trade-is : (f : Trade → A) (o : A) (c : Call) → ((t : Trade) → c ≡ call.Trade t → P (f t)) → P o → P (onTrade f o c)

@@ -5,32 +5,36 @@ use Rattle.calls.specs.declared.Call.the-variants as call
 
 module _ {A : Type 0} where
   -- one function of all kinds; the others are it with `other` in every place but one
-  abbrev pub byCall : (Market → A) → (Trade → A) → A → A → (ℕ → A) → (ℕ → A) → A → Call → A
-  byCall quote trade halt resume minute fix close (call.Quote m) = quote m
-  byCall quote trade halt resume minute fix close (call.Trade t) = trade t
-  byCall quote trade halt resume minute fix close call.Halt = halt
-  byCall quote trade halt resume minute fix close call.Resume = resume
-  byCall quote trade halt resume minute fix close (call.MinuteEnd u) = minute u
-  byCall quote trade halt resume minute fix close (call.Fix set) = fix set
-  byCall quote trade halt resume minute fix close call.Close = close
+  abbrev pub byCall : (Market → A) → (Trade → A) → A → A → (ℕ → A) → (ℕ → A) → A → (ℕ → A) → Call → A
+  byCall quote trade halt resume minute fix close length (call.Quote m) = quote m
+  byCall quote trade halt resume minute fix close length (call.Trade t) = trade t
+  byCall quote trade halt resume minute fix close length call.Halt = halt
+  byCall quote trade halt resume minute fix close length call.Resume = resume
+  byCall quote trade halt resume minute fix close length (call.MinuteEnd u) = minute u
+  byCall quote trade halt resume minute fix close length (call.Fix set) = fix set
+  byCall quote trade halt resume minute fix close length call.Close = close
+  byCall quote trade halt resume minute fix close length (call.DayLength l) = length l
 
   abbrev pub onQuote : (Market → A) → A → Call → A
-  onQuote f other = byCall f (λ t. other) other other (λ u. other) (λ set. other) other
+  onQuote f other = byCall f (λ t. other) other other (λ u. other) (λ set. other) other (λ l. other)
 
   abbrev pub onTrade : (Trade → A) → A → Call → A
-  onTrade f other = byCall (λ m. other) f other other (λ u. other) (λ set. other) other
+  onTrade f other = byCall (λ m. other) f other other (λ u. other) (λ set. other) other (λ l. other)
 
   abbrev pub onHalt : A → A → Call → A
-  onHalt x other = byCall (λ m. other) (λ t. other) x other (λ u. other) (λ set. other) other
+  onHalt x other = byCall (λ m. other) (λ t. other) x other (λ u. other) (λ set. other) other (λ l. other)
 
   abbrev pub onResume : A → A → Call → A
-  onResume x other = byCall (λ m. other) (λ t. other) other x (λ u. other) (λ set. other) other
+  onResume x other = byCall (λ m. other) (λ t. other) other x (λ u. other) (λ set. other) other (λ l. other)
 
   abbrev pub onMinuteEnd : (ℕ → A) → A → Call → A
-  onMinuteEnd f other = byCall (λ m. other) (λ t. other) other other f (λ set. other) other
+  onMinuteEnd f other = byCall (λ m. other) (λ t. other) other other f (λ set. other) other (λ l. other)
 
   abbrev pub onFix : (ℕ → A) → A → Call → A
-  onFix f other = byCall (λ m. other) (λ t. other) other other (λ u. other) f other
+  onFix f other = byCall (λ m. other) (λ t. other) other other (λ u. other) f other (λ l. other)
 
   abbrev pub onClose : A → A → Call → A
-  onClose x other = byCall (λ m. other) (λ t. other) other other (λ u. other) (λ set. other) x
+  onClose x other = byCall (λ m. other) (λ t. other) other other (λ u. other) (λ set. other) x (λ l. other)
+
+  abbrev pub onDayLength : (ℕ → A) → A → Call → A
+  onDayLength f other = byCall (λ m. other) (λ t. other) other other (λ u. other) (λ set. other) other f

@@ -1,13 +1,19 @@
-// The calls of a trade date, with the markets and trades that they bring.
+// The calls of a trade date, with the markets, trades and lengths of day that they bring.
 ghost use mathlib.Core.Path.{_≡_};
 ghost use Rattle.calls.specs.Market.{twoSided, uncrossed, asMinute, isValid, marketHolds, minuteMarketHolds};
 ghost use Rattle.calls.specs.Trade.{tradeOutside};
+ghost use Rattle.calls.specs.Length.{isLength};
+use funding::MOST_MINUTES;
 use funding::Terms;
 use funding::none_or_ticked;
 
 pub const MOST_QUANTITY: u32 = 100_000;
 
 pub const LEAST_BLOCK: u32 = 250;
+// The lengths of a day, in minutes: an ordinary one, and one that ends early before a holiday.
+pub const FULL_DAY: u32 = MOST_MINUTES;
+
+pub const SHORT_DAY: u32 = 1_140;
 
 // A market, or one side of it: 0 where a side doesn't stand.
 pub struct Market {
@@ -33,6 +39,14 @@ pub enum Call {
     MinuteEnd(u32),
     Fix(u32),
     Close,
+    // the minutes of the day
+    DayLength(u32),
+}
+
+pub fn is_length(minutes: u32) -> bool
+    ensures { λ r. ⌜ r ≡ isLength minutes ⌝ }
+{
+    (minutes == FULL_DAY) | (minutes == SHORT_DAY)
 }
 
 impl Market {

@@ -1,7 +1,7 @@
--- What figures within their limits hold, as facts that `omega` reads, and back: figures that hold no more are within their limits.
---     held-figures, figures-hold     likewise for a day and a final minute
---     size-is, size-most             the size
---     held-market                    a market's sides
+-- What a day within its limits holds, as facts that `omega` reads, and back: a day that holds no more is within its limits.
+--     held-day, day-holds         likewise for a final minute
+--     day-most                    its minutes
+--     held-market                 a market's sides
 -- Assumes nothing.
 use mathlib.Core.Path.{_≡_}
 use mathlib.Core.Bool.{true, _&&_, _||_}
@@ -14,17 +14,20 @@ use Rattle.integers.specs.Size.{within}
 use Rattle.integers.proofs.Tests.{tests, _and_, each, both-true}
 use Rattle.funding.specs.declared.FinalMinute.{FinalMinute}
 use Rattle.funding.specs.Price.{leastPrice, largestPrice, noneOrPrice, noneOrTicked}
-use Rattle.funding.specs.Minute.{weightedLimit}
+use Rattle.funding.specs.Minute.{weightedLimit, mostMinutes}
 use Rattle.funding.proofs.Prices.{ticked-price}
 use Rattle.calls.specs.declared.Market.{Market}
 use Rattle.calls.specs.Market.{twoSided, uncrossed, marketHolds, minuteMarketHolds}
+use Rattle.calls.specs.Length.{isLength}
+use Rattle.calls.proofs.Length.{length-most}
 use Rattle.day.specs.declared.Day.{Day}
 use Rattle.day.specs.Day.{dayLength}
-use Rattle.day.specs.Limits.{minutesHold, marketsHold, mostAmount, pricesHold, fixHolds, finalHolds, dayHolds}
+use Rattle.day.specs.Limits.{minutesHold, marketsHold, mostAmount, pricesHold, fixHolds, startHolds, finalHolds, dayHolds}
 
 -- ---- what is held
 
 pub record HeldDay (d : Day) : Type 0 where
+  pub length : isLength (dayLength d) ≡ true
   pub ended : d .minutes .ended ≤ dayLength d
   pub valid : d .minutes .valid ≤ d .minutes .ended
   pub weighted : natAbs (d .minutes .weighted) ≤ weightedLimit (d .minutes .valid)
@@ -34,6 +37,7 @@ pub record HeldDay (d : Day) : Type 0 where
   pub price : noneOrPrice (d .fixed .price) ≡ true
   pub amount : natAbs (d .fixed .amount) ≤ mostAmount
   pub fix : fixHolds d ≡ true
+  pub start : startHolds d ≡ true
 
 -- the final minute's trades, where the accounts' v add up to so much
 pub record HeldFinal (m : FinalMinute) (volume : ℕ) : Type 0 where
@@ -46,23 +50,25 @@ pub record HeldFinal (m : FinalMinute) (volume : ℕ) : Type 0 where
 pub held-day : (d : Day) → dayHolds d ≡ true → HeldDay d
 unfolding dayHolds
 held-day d h =
-    let t = each (minutesHold d) (marketsHold (d .markets) ∷ pricesHold d ∷ fixHolds d ∷ []) h in
+    let t = each (minutesHold d) (marketsHold (d .markets) ∷ pricesHold d ∷ fixHolds d ∷ startHolds d ∷ []) h in
     let m =
-    each (leb (d .minutes .ended) (dayLength d))
-    (leb (d .minutes .valid) (d .minutes .ended) ∷ within (d .minutes .weighted) (weightedLimit (d .minutes .valid)) ∷ []) (t 0) in
+    each (isLength (dayLength d))
+    (leb (d .minutes .ended) (dayLength d) ∷ leb (d .minutes .valid) (d .minutes .ended) ∷ within (d .minutes .weighted) (weightedLimit (d .minutes .valid)) ∷ []) (t 0) in
     let p =
     each (noneOrPrice (d .trades .last))
     (noneOrPrice (d .minutes .index) ∷ noneOrPrice (d .fixed .price) ∷ within (d .fixed .amount) mostAmount ∷ []) (t 2) in
     record {
-      ended = omega (tests, m 0);
-      valid = omega (tests, m 1);
-      weighted = omega (tests, m 2);
+      length = m 0;
+      ended = omega (tests, m 1);
+      valid = omega (tests, m 2);
+      weighted = omega (tests, m 3);
       markets = t 1;
       last = p 0;
       index = p 1;
       price = p 2;
       amount = omega (tests, p 3);
       fix = t 3;
+      start = t 4;
     }
 
 pub held-final : (m : FinalMinute) (volume : ℕ) → finalHolds m volume ≡ true → HeldFinal m volume
@@ -75,15 +81,19 @@ held-final m volume h =
 pub day-holds : (d : Day) → HeldDay d → dayHolds d ≡ true
 unfolding dayHolds
 day-holds d h =
-    (le-leb _ _ (h .ended) and le-leb _ _ (h .valid) and le-leb _ _ (h .weighted))
+    (h .length and le-leb _ _ (h .ended) and le-leb _ _ (h .valid) and le-leb _ _ (h .weighted))
     and h .markets
     and (h .last and h .index and h .price and le-leb _ _ (h .amount))
     and h .fix
+    and h .start
 
 pub final-holds : (m : FinalMinute) (volume : ℕ) → HeldFinal m volume → finalHolds m volume ≡ true
 final-holds m volume h = le-leb _ _ (h .contracts) and le-leb _ _ (h .low) and le-leb _ _ (h .high)
 
 -- ---- what follows
+
+pub day-most : (d : Day) → HeldDay d → dayLength d ≤ mostMinutes
+day-most d h = length-most (dayLength d) (h .length)
 
 -- the sides of a market, where there may be none
 pub record HeldMarket (m : Market) : Type 0 where

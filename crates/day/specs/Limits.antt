@@ -4,13 +4,14 @@ use Prim.Native.Nat.{ℕ, _*_}
 use lib.Dec.{leb, eqb}
 use Rattle.integers.specs.Size.{within}
 use Rattle.funding.specs.{declared.FinalMinute.FinalMinute, Price.leastPrice, Price.largestPrice, Price.noneOrPrice, Minute.weightedLimit}
-use Rattle.calls.specs.Market.{marketHolds, minuteMarketHolds}
+use Rattle.calls.specs.{Market.marketHolds, Market.minuteMarketHolds, Length.fullDay, Length.isLength}
 use Rattle.day.specs.{declared.Day.Day, Day.dayLength, Day.isFixed, declared.Markets.Markets}
 
--- 01: "ended minutes 0 to 1,320; valid count k at most the ended minutes; weighted sum S at most 9,999 × 10^9 × k(k+1)/2 in size"
+-- 02-1: "A book's length is one of the two, its ended minutes within it"; 01: "valid count k at most the ended minutes; weighted sum S at most 9,999 × 10^9 × k(k+1)/2 in size"
 abbrev pub minutesHold : Day → Bool
 minutesHold d =
-    leb (d .minutes .ended) (dayLength d) && leb (d .minutes .valid) (d .minutes .ended) && within (d .minutes .weighted) (weightedLimit (d .minutes .valid))
+    isLength (dayLength d) && leb (d .minutes .ended) (dayLength d) && leb (d .minutes .valid) (d .minutes .ended)
+    && within (d .minutes .weighted) (weightedLimit (d .minutes .valid))
 
 abbrev pub marketsHold : Markets → Bool
 marketsHold m = marketHolds (m .standing) && minuteMarketHolds (m .minute)
@@ -26,9 +27,13 @@ pricesHold d = noneOrPrice (d .trades .last) && noneOrPrice (d .minutes .index) 
 abbrev pub finalHolds : FinalMinute → ℕ → Bool
 finalHolds m v = leb (2 * m .contracts) v && leb (leastPrice * m .contracts) (m .gross) && leb (m .gross) (largestPrice * m .contracts)
 
--- 01: "a fixed day has 1,320 ended minutes"
+-- 01: "a fixed day has" all its minutes ended
 abbrev pub fixHolds : Day → Bool
 fixHolds d = not (isFixed d) || eqb (d .minutes .ended) (dayLength d)
 
+-- 02-1: "while no such call or record has come, it is 1,320 and they are 0"
+abbrev pub startHolds : Day → Bool
+startHolds d = d .session .begun || (eqb (dayLength d) fullDay && eqb (d .minutes .ended) 0)
+
 unfoldable pub dayHolds : Day → Bool
-dayHolds d = minutesHold d && marketsHold (d .markets) && pricesHold d && fixHolds d
+dayHolds d = minutesHold d && marketsHold (d .markets) && pricesHold d && fixHolds d && startHolds d

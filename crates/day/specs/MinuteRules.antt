@@ -2,8 +2,8 @@
 -- Proved by computing in proofs/MinuteRules.antt.
 use mathlib.Core.{Path._≡_, Bool.true, Bool.false}
 use Prim.Native.Nat.{ℕ}
-use Rattle.funding.specs.{Terms.standardTerms, Minute.mostMinutes}
-use Rattle.calls.specs.{declared.Market.Market, declared.Trade.Trade, Market.noMarket, Market.asMinute, Market.isValid}
+use Rattle.funding.specs.Terms.{standardTerms}
+use Rattle.calls.specs.{declared.Market.Market, declared.Trade.Trade, Market.noMarket, Market.asMinute, Market.isValid, Length.fullDay, Length.shortDay}
 use Rattle.day.specs.Day.{isFinal}
 
 abbrev market : ℕ → ℕ → Market
@@ -22,13 +22,16 @@ pub record Validity : Type 0 where
   pub no-sample : isValid standardTerms false (market 39900 40100) 0 ≡ false
   pub too-wide : isValid standardTerms false (market 39900 40110) 40000 ≡ false
 
--- 01: "A kind 0 trade after minute end 1,319 and before 1,320"
+-- 01: "A kind 0 trade after minute end 1,319 and before 1,320"; 02-1: "the last minute in document 01 is the day's own everywhere"
 pub record LastMinute : Type 0 where
-  pub minute-before : isFinal mostMinutes 1318 (tradeOf 0) ≡ false
-  pub last-minute : isFinal mostMinutes 1319 (tradeOf 0) ≡ true
-  pub day-over : isFinal mostMinutes 1320 (tradeOf 0) ≡ false
-  pub spread-trade : isFinal mostMinutes 1319 (tradeOf 1) ≡ false
-  pub block-trade : isFinal mostMinutes 1319 (tradeOf 2) ≡ false
+  pub minute-before : isFinal fullDay 1318 (tradeOf 0) ≡ false
+  pub last-minute : isFinal fullDay 1319 (tradeOf 0) ≡ true
+  pub day-over : isFinal fullDay 1320 (tradeOf 0) ≡ false
+  pub spread-trade : isFinal fullDay 1319 (tradeOf 1) ≡ false
+  pub block-trade : isFinal fullDay 1319 (tradeOf 2) ≡ false
+  pub short-before : isFinal shortDay 1138 (tradeOf 0) ≡ false
+  pub short-last : isFinal shortDay 1139 (tradeOf 0) ≡ true
+  pub short-over : isFinal shortDay 1140 (tradeOf 0) ≡ false
 
 -- 01: "A market that turned one-sided still serves that minute, not the next"
 pub record MinuteMarkets : Type 0 where

@@ -9,12 +9,13 @@ ghost use Rattle.day.specs.Effects.{withMarkets, withMinutes, withTrades
 ghost use Rattle.day.specs.Effects.{quoted as Effects·quoted};
 ghost use Rattle.day.specs.Effects.{traded as Effects·traded};
 ghost use Rattle.day.specs.Inner.{RoomForTrade, Endable};
+use calls::FULL_DAY;
 use calls::Market;
 use calls::Trade;
+use calls::is_length;
 use funding::FinalMinute;
 use funding::LARGEST_PRICE;
 use funding::LEAST_PRICE;
-use funding::MOST_MINUTES;
 use funding::none_or_price;
 use integers::is_within;
 
@@ -51,12 +52,21 @@ pub struct Fixed {
     pub amount: i64,
 }
 
+// What the first call of a date sets.
+pub struct Session {
+    // the minutes of the day
+    pub length: u32,
+    // whether the date has accepted a quote, trade, halt, resume, minute end or length of day
+    pub begun: bool,
+}
+
 // The day's figures, which a close empties. A price, an index or a side is 0 where there is none.
 pub struct Day {
     pub minutes: Minutes,
     pub markets: Markets,
     pub trades: Trades,
     pub fixed: Fixed,
+    pub session: Session,
 }
 
 impl Markets {
@@ -128,27 +138,25 @@ impl Day {
                 price: 0,
                 amount: 0,
             },
+            session: Session {
+                length: FULL_DAY,
+                begun: false,
+            },
         }
-    }
-
-    // The minutes of the day.
-    fn length(self) -> u32
-        ensures { λ r. ⌜ r ≡ dayLength self ⌝ }
-    {
-        MOST_MINUTES
     }
 
     fn is_in_last_minute(self) -> bool
         ensures { λ r. ⌜ r ≡ inLastMinute (dayLength self) (self .minutes .ended) ⌝ }
     {
-        self.minutes.ended as u64 + 1 == self.length() as u64
+        self.minutes.ended as u64 + 1 == self.session.length as u64
     }
 
     fn minutes_hold(self) -> bool
         ensures { λ r. ⌜ r ≡ minutesHold self ⌝ }
     {
         let minutes = self.minutes;
-        if (minutes.ended <= self.length()) & (minutes.valid <= minutes.ended) {
+        let length = self.session.length;
+        if is_length(length) & (minutes.ended <= length) & (minutes.valid <= minutes.ended) {
             is_within(minutes.weighted, funding::weighted_limit(minutes.valid))
         } else {
             false
@@ -163,21 +171,23 @@ impl Day {
             & none_or_price(self.minutes.index)
             & none_or_price(self.fixed.price)
             & is_within(self.fixed.amount, MOST_AMOUNT);
-        let fix = !(self.fixed.price != 0) | (self.minutes.ended == self.length());
-        self.minutes_hold() & self.markets.holds() & prices & fix
+        let fix = !(self.fixed.price != 0) | (self.minutes.ended == self.session.length);
+        let start = self.session.begun
+            | ((self.session.length == FULL_DAY) & (self.minutes.ended == 0));
+        self.minutes_hold() & self.markets.holds() & prices & fix & start
     }
 
     // 3: whether a minute end, or a fix, comes at a time that the day doesn't allow.
     pub fn forbids_minute_end(self) -> bool
         ensures { λ r. ⌜ r ≡ forbidsMinuteEnd self ⌝ }
     {
-        (self.length() <= self.minutes.ended) | (self.fixed.price != 0)
+        (self.session.length <= self.minutes.ended) | (self.fixed.price != 0)
     }
 
     pub fn forbids_fix(self) -> bool
         ensures { λ r. ⌜ r ≡ forbidsFix self ⌝ }
     {
-        (self.minutes.ended < self.length()) | (self.fixed.price != 0)
+        (self.minutes.ended < self.session.length) | (self.fixed.price != 0)
     }
 
     pub fn quoted(mut self, market: Market) -> Day

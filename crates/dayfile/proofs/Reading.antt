@@ -54,6 +54,7 @@ module _ (file : List ℕ) (at : ℕ) where
   byte-read tag.Resume = refl
   byte-read tag.Fix = refl
   byte-read tag.Close = refl
+  byte-read tag.DayLength = refl
 
   -- the three tests of a record at a place
   record-tests : (t : Tag) → isRecordAt file at t ≡ true → (bodyAt at + bodyLength t ≤ length file) × (byteAt file at ≡ byteOf t) × (statedLength file at ≡ bodyLength t)

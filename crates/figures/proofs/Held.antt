@@ -1,16 +1,14 @@
 -- What figures within their limits hold, as facts that `omega` reads, and back: figures that hold no more are within their limits.
 --     held-figures, figures-hold     both ways
---     size-is, size-most             the size
+--     size-most                      the size
 -- Assumes nothing.
-use mathlib.Core.Path.{_≡_, refl}
-use mathlib.Core.Bool.{Bool, true, false}
+use mathlib.Core.Path.{_≡_}
+use mathlib.Core.Bool.{true}
 use mathlib.Core.List.{[], _∷_}
-use mathlib.Core.Logic.{_⊎_, inl, inr, ⊎-elim}
 use Prim.Native.Nat.{ℕ, _≤_}
-use native.Mathlib.Omega.{arith}
 use lib.Dec.{leb, eqb}
-use borrow.Author.Tests.{le-leb, eqb-true}
-use Rattle.integers.proofs.Tests.{tests, _and_, each}
+use borrow.Author.Tests.{le-leb}
+use Rattle.integers.proofs.Tests.{tests, either, _and_, each}
 use Rattle.funding.specs.Price.{noneOrPrice}
 use Rattle.refusals.specs.Refusals.{mostDays}
 use Rattle.day.specs.Limits.{dayHolds}
@@ -35,12 +33,5 @@ pub figures-hold : (f : Figures) → HeldFigures f → figuresHold f ≡ true
 unfolding figuresHold
 figures-hold f h = h .size and le-leb _ _ (h .closed) and h .price and h .index and day-holds (f .day) (h .day)
 
-pub size-is : (s : ℕ) → isSize s ≡ true → (s ≡ hundredth) ⊎ (s ≡ tenth)
-size-is s h = by (eqb s hundredth) refl
-  where
-    by : (t : Bool) → eqb s hundredth ≡ t → (s ≡ hundredth) ⊎ (s ≡ tenth)
-    by true e = inl (omega tests)
-    by false e = inr (eqb-true s tenth (rw e at h))
-
 pub size-most : (s : ℕ) → isSize s ≡ true → s ≤ tenth
-size-most s h = ⊎-elim (λ e. omega arith) (λ e. omega arith) (size-is s h)
+size-most s h = either (eqb s hundredth) (eqb s tenth) h (λ e. omega tests) (λ e. omega tests)

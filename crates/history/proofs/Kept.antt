@@ -28,7 +28,7 @@ use Rattle.trading.specs.Trading.{exchanged, counted}
 use Rattle.ledger.specs.declared.Book.{Book}
 use Rattle.ledger.specs.Effects.{withFigures, tradedBook, closedBook, effect}
 use Rattle.ledger.specs.Step.{fresh}
-use Rattle.history.specs.History.{History, lengthOf, halted, market, minuteMarket, last, closings, today, closedPart, trades, minuteEnds, fixes, minutes, endsValid, validOf, validMinutes, finalTrades}
+use Rattle.history.specs.History.{History, lengthOf, begun, halted, market, minuteMarket, last, closings, today, closedPart, trades, minuteEnds, fixes, minutes, endsValid, validOf, validMinutes, finalTrades}
 use Rattle.history.specs.Cash.{finalMinute, indexOf, indexOn, atFix, previousOf, priceOn, lastPrice, amountOn, ofAccount, signed, net, yield, paid, cashOf}
 use Rattle.history.proofs.Columns.{table-ext, replicate-table, raise-table, raiseCount-table}
 
@@ -40,6 +40,7 @@ dayFrom s h = record {
   minutes = record { ended = minutes h; valid = length (validMinutes h); weighted = weightedSum (validMinutes h); index = indexOn h };
   trades = record { last = last h; settling = finalMinute (finalTrades h) };
   fixed = record { price = priceOn h; amount = amountOn s h };
+  session = record { length = lengthOf h; begun = begun h };
 }
 
 abbrev pub figuresFrom : ℕ → History → Figures
@@ -97,7 +98,7 @@ module _ (s : ℕ) (h : History) where
   weighted-after u = if-ap weightedSum (ends u) (minuteOf (minuteMarket h) (last h) u) (validMinutes h)
 
   pub figures-after : (c : Call) → figuresAfter (figuresFrom s h) c ≡ figuresFrom s (c ∷ h)
-  unfolding figuresAfter halted market minuteMarket last closings minuteEnds fixes finalTrades indexOf atFix previousOf validOf sumCount weightedSum
+  unfolding figuresAfter lengthOf begun halted market minuteMarket last closings minuteEnds fixes finalTrades indexOf atFix previousOf validOf sumCount weightedSum
   figures-after (call.Quote m) = refl
   figures-after (call.Trade t) = cc (final-after t)
   figures-after call.Halt = refl
@@ -115,10 +116,12 @@ module _ (s : ℕ) (h : History) where
           minutes = record { ended = add-one (minutes h) i; valid = valid-after u i; weighted = weighted-after u i; index = d .minutes .index };
           trades = d .trades;
           fixed = d .fixed;
+          session = d .session;
         };
       }
   figures-after (call.Fix set) = refl
   figures-after call.Close = cc (add-one (length (closings h)))
+  figures-after (call.DayLength l) = refl
 
 -- ---- the columns after a trade
 
@@ -223,5 +226,5 @@ effect-is n s h c = by (trade-or c) (close-or c)
         })
 
 pub fresh-is : (n s : ℕ) → fresh n s ≡ bookFrom n s []
-unfolding halted market minuteMarket last closings today closedPart trades minuteEnds fixes validOf finalTrades sumCount sum indexOf atFix previousOf weightedSum
+unfolding lengthOf begun halted market minuteMarket last closings today closedPart trades minuteEnds fixes validOf finalTrades sumCount sum indexOf atFix previousOf weightedSum
 fresh-is n s = cc (replicate-table n (pos 0), replicate-table {A = ℕ} n 0)

@@ -13,7 +13,7 @@ use Rattle.history.specs.History.{History, Moment, lengthOf, termsOf, ti
 abbrev pub finalMinute : List Trade → FinalMinute
 finalMinute ts = record { contracts = sumCount (λ t. t .quantity) ts; gross = sumCount (λ t. t .quantity * t .price) ts }
 
--- 01: "The u of minute 1,320 is the day's index", 0 before it
+-- 01: "The u of" the last minute "is the day's index", 0 before it
 unfoldable pub indexOf : List Moment → ℕ
 indexOf [] = 0
 indexOf (m ∷ ms) = cond (inLastMinute (lengthOf (m .before)) (length ms)) (m .value) (indexOf ms)

@@ -4,17 +4,26 @@ use mathlib.Core.{Bool.Bool, Bool.true, Bool.false, List.List, List.[], List._�
 use Prim.Native.Nat.{ℕ}
 use lib.ListN.{length}
 use Rattle.integers.specs.{declared.Tie.Tie, declared.Tie.the-variants.Even, Lists.keepIf}
-use Rattle.funding.specs.{declared.Terms.Terms, Terms.standardTerms, Minute.Minute, Minute.mostMinutes}
-use Rattle.calls.specs.{declared.Market.Market, declared.Trade.Trade, declared.Call.Call, Market.noMarket, Market.asMinute, Market.isValid, Calls.onQuote, Calls.onTrade, Calls.onHalt, Calls.onResume, Calls.onMinuteEnd, Calls.onFix, Calls.onClose}
+use Rattle.funding.specs.{declared.Terms.Terms, Terms.standardTerms, Minute.Minute}
+use Rattle.calls.specs.{declared.Market.Market, declared.Trade.Trade, declared.Call.Call, Market.noMarket, Market.asMinute, Market.isValid, Calls.onQuote, Calls.onTrade, Calls.onHalt, Calls.onResume, Calls.byCall, Calls.onMinuteEnd, Calls.onFix, Calls.onClose, Calls.onDayLength, Length.fullDay}
 use Rattle.day.specs.Day.{isFinal, minuteOf}
 
 abbrev pub History : Type 0
 History = List Call
 
--- ---- the numbers in force on the open day: document 01's on every day
+-- ---- the open day's date
 
-abbrev pub lengthOf : History → ℕ
-lengthOf h = mostMinutes
+-- 02-1: a length of day "sets 1,320 or 1,140. Without it the day has 1,320"
+unfoldable pub lengthOf : History → ℕ
+lengthOf [] = fullDay
+lengthOf (c ∷ h) = onDayLength (λ l. l) (onClose fullDay (lengthOf h) c) c
+
+-- 02-1: "whether such a call or record has come": a "quote, trade, halt, resume or minute end", or a length of day
+unfoldable pub begun : History → Bool
+begun [] = false
+begun (c ∷ h) = byCall (λ m. true) (λ t. true) true true (λ u. true) (λ set. begun h) false (λ l. true) c
+
+-- ---- the numbers in force on the open day: document 01's on every day
 
 abbrev pub termsOf : History → Terms
 termsOf h = standardTerms

@@ -3,6 +3,7 @@
 --     leb-same          two tests that hold together
 --     by-test           what holds of both results of a test holds of its result
 --     both-true, both-false     each half of a test that holds, or that fails
+--     either            what holds for either of two tests of which one holds
 --     and               two tests that hold, joined
 --     each, none        each of the tests a && b && c && … that hold, and of a || b || c || … that fail, by its place
 -- Assumes nothing.
@@ -37,6 +38,10 @@ both-true false t h = absurd (true≢false (sym h))
 pub both-false : (s t : Bool) → s || t ≡ false → (s ≡ false) × (t ≡ false)
 both-false true t h = absurd (true≢false h)
 both-false false t h = (refl, h)
+
+pub either : (s t : Bool) {P : Type 0} → s || t ≡ true → (s ≡ true → P) → (t ≡ true → P) → P
+either true t h f g = f refl
+either false t h f g = g h
 
 infixl 35 _and_
 pub _and_ : {s t : Bool} → s ≡ true → t ≡ true → s && t ≡ true

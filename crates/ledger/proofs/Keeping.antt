@@ -57,6 +57,7 @@ shape-kept n b (call.MinuteEnd u) s = same-columns n b (figuresAfter (b .figures
 shape-kept n b (call.Fix set) s = same-columns n b (figuresAfter (b .figures) (call.Fix set)) s
 shape-kept n b call.Close s =
     record { opening = s .position; position = s .position; cost = length-replicate n _; volume = length-replicate n _; cash = table-length n _ }
+shape-kept n b (call.DayLength l) s = same-columns n b (figuresAfter (b .figures) (call.DayLength l)) s
 
 -- ---- the limits
 
@@ -77,6 +78,7 @@ module _ (n : ℕ) (b : Book) (h : Held n b) where
       by (call.MinuteEnd u) p f = same-accounts (figuresAfter (b .figures) (call.MinuteEnd u)) f refl refl
       by (call.Fix set) p f = same-accounts (figuresAfter (b .figures) (call.Fix set)) f refl refl
       by call.Close p f = record { figures = f; account = closed-account n b h; final = no-trades _ }
+      by (call.DayLength l) p f = same-accounts (figuresAfter (b .figures) (call.DayLength l)) f refl refl
 
 pub limits-kept : LimitsKept
 limits-kept n b c s r = let p = passed n b c r in holds n (effect n b c) (kept n b (held n b (p .limits)) c s p)

@@ -166,6 +166,12 @@ impl Book {
         self.step(Call::Close)
     }
 
+    pub fn day_length(self, minutes: u32) -> Answer
+        ensures { λ r. ⌜ r ≡ Step·step accounts self (Call.DayLength minutes) ⌝ }
+    {
+        self.step(Call::DayLength(minutes))
+    }
+
     // Entry j of the lists becomes account j's position and cash. Refusals 2 and 10 leave the lists as they are.
     pub fn report(self, positions: &mut [i64], cash: &mut [i64]) -> u8
         ensures number { λ r. ⌜ r ≡ reportRefusal accounts self (length (now (positions .entry))) (length (now (cash .entry))) ⌝ }

@@ -36,5 +36,6 @@ pub fn step_on(
         Call::MinuteEnd(index) => outcomes::minute_end(figures, index),
         Call::Fix(set) => outcomes::fix(figures, set),
         Call::Close => close_on(figures, opening, position, cost, volume, cash),
+        Call::DayLength(minutes) => outcomes::day_length(figures, minutes),
     }
 }

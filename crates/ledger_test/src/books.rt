@@ -1,5 +1,6 @@
 // The fields of a book, read and written by their numbers.
 use crate::fields::ACCOUNT;
+use crate::fields::BEGUN;
 use crate::fields::CASH;
 use crate::fields::CLOSED;
 use crate::fields::CONTRACTS;
@@ -12,6 +13,7 @@ use crate::fields::GROSS;
 use crate::fields::HALTED;
 use crate::fields::INDEX;
 use crate::fields::LAST;
+use crate::fields::LENGTH;
 use crate::fields::MARKET;
 use crate::fields::MINUTE;
 use crate::fields::MINUTES;
@@ -28,12 +30,14 @@ use crate::fields::WEIGHTED;
 use crate::numbers::HALF;
 use crate::numbers::as_signed;
 use crate::numbers::of_signed;
+use calls::FULL_DAY;
 use calls::Market;
 use columns::ACCOUNTS;
 use day::Day;
 use day::Fixed;
 use day::Markets;
 use day::Minutes;
+use day::Session;
 use day::Trades;
 use figures::Figures;
 use funding::FinalMinute;
@@ -62,7 +66,9 @@ fn figure(figures: Figures, field: usize) -> u64 {
         GROSS => day.trades.settling.gross,
         INDEX => day.minutes.index as u64,
         FIXED_PRICE => day.fixed.price as u64,
-        _ => of_signed(day.fixed.amount),
+        FIXED_AMOUNT => of_signed(day.fixed.amount),
+        LENGTH => day.session.length as u64,
+        _ => day.session.begun as u64,
     }
 }
 
@@ -128,6 +134,8 @@ fn with_figure(mut figures: Figures, field: usize, n: u64) -> Figures {
         GROSS => figures.day.trades.settling.gross = n,
         INDEX => figures.day.minutes.index = small,
         FIXED_PRICE => figures.day.fixed.price = small,
+        LENGTH => figures.day.session.length = small,
+        BEGUN => figures.day.session.begun = small != 0,
         WEIGHTED | FIXED_AMOUNT => figures.day = with_signed(day, field, as_signed(n)),
         _ => figures.day = with_market(day, field, n),
     }
@@ -160,6 +168,7 @@ pub fn with_value(mut book: Book, account: u8, field: usize, n: u64) -> Book {
     book
 }
 
+// A full day that has begun, with nothing else.
 fn no_day() -> Day {
     Day {
         markets: Markets {
@@ -183,10 +192,14 @@ fn no_day() -> Day {
             price: 0,
             amount: 0,
         },
+        session: Session {
+            length: FULL_DAY,
+            begun: true,
+        },
     }
 }
 
-// A book of this size with nothing else.
+// A book of this size and this day, with nothing else.
 pub fn empty(size: u32) -> Book {
     Book {
         figures: Figures {

@@ -1,5 +1,6 @@
 // What differs between two books, in every figure and every account's entries.
 use crate::books::number_at;
+use crate::fields::BEGUN;
 use crate::fields::ENTRIES;
 use crate::fields::FIGURES;
 use crate::fields::HALTED;
@@ -23,14 +24,14 @@ use std::num::wrapping_sub_usize;
 const NUMBERS: usize = FIGURES + ENTRIES * ACCOUNTS;
 
 fn print_figure(field: usize, n: u64) {
-    if (field == HALTED) & (n == 0) {
+    if ((field == HALTED) | (field == BEGUN)) & (n == 0) {
         print_word(NEXT_NOT);
     } else {
         print_word(NEXT);
     }
     print_name(field);
     match field {
-        HALTED => {}
+        HALTED | BEGUN => {}
         MARKET | MINUTE => {
             print_after(BLANK, n / HALF);
             print_after(SLASH, n % HALF);

@@ -32,7 +32,11 @@ pub const FIXED_PRICE: usize = 14;
 
 pub const FIXED_AMOUNT: usize = 15;
 
-pub const FIGURES: usize = 16;
+pub const LENGTH: usize = 16;
+
+pub const BEGUN: usize = 17;
+
+pub const FIGURES: usize = 18;
 
 pub const OPENING: usize = FIGURES;
 

@@ -20,13 +20,15 @@ pub const FIX: usize = FIELDS + 5;
 
 pub const CLOSE: usize = FIELDS + 6;
 
-pub const OPENING: usize = FIELDS + 7;
+pub const DAY_LENGTH: usize = FIELDS + 7;
 
-pub const MINUTE_ENDS: usize = FIELDS + 8;
+pub const OPENING: usize = FIELDS + 8;
 
-pub const REPORT: usize = FIELDS + 9;
+pub const MINUTE_ENDS: usize = FIELDS + 9;
 
-pub const PRODUCTS: usize = FIELDS + 10;
+pub const REPORT: usize = FIELDS + 10;
+
+pub const PRODUCTS: usize = FIELDS + 11;
 
 // No call at all, not even an unknown one.
 pub const NOTHING: usize = 1_000;
@@ -52,6 +54,7 @@ pub fn made(book: Book, call: usize, n: Numbers) -> Answer {
         MINUTE_END => book.minute_end(given),
         FIX => book.fix(given),
         CLOSE => book.close(),
+        DAY_LENGTH => book.day_length(given),
         _ => Book::opening(given),
     }
 }

@@ -1,6 +1,6 @@
 // One call, or one row of calls, on a book, printed with its answer.
 use crate::changes::changes;
-use crate::named_calls::CLOSE;
+use crate::named_calls::DAY_LENGTH;
 use crate::named_calls::QUOTE;
 use crate::named_calls::made;
 use crate::numbers::Numbers;
@@ -72,13 +72,13 @@ fn entry(book: Book, call: usize, n: Numbers) -> bool {
     (answer.code != 0) & changes(book, answer.book, false)
 }
 
-// Prints the numbers that quote, trade, halt, resume, minute end, fix, close and report come to on this book, and whether
-// the refused ones hand the same book back.
+// Prints the numbers that quote, trade, halt, resume, minute end, fix, close, day length and report come to on this book, and
+// whether the refused ones hand the same book back.
 pub fn row(book: Book) {
     print_word(CODES);
     let mut changed = false;
     let mut i: usize = 0;
-    while i <= CLOSE - QUOTE {
+    while i <= DAY_LENGTH - QUOTE {
         changed = entry(book, QUOTE + i, row_numbers(i)) | changed;
         i += 1;
     }

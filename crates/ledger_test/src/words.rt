@@ -7,19 +7,20 @@ use crate::print::text;
 
 // The fields, in the order of fields.rt, and the calls, in the order of calls.rt. A name ends with a bar; its place is the
 // number of the field or the call.
-const NAMES: [u8; 291] =
+const NAMES: [u8; 315] =
     *b"size|closed days|halted|previous price|previous index|minutes|k|S|market|minute's market|\
-    last|n|gross|index|fixed price|fixed amount|opening|position|cost|v|cash|\
+    last|n|gross|index|fixed price|fixed amount|length|begun|opening|position|cost|v|cash|\
     account|opened|both markets|valid minutes|\
-    quote|trade|halt|resume|minute end|fix|close|opening|minute ends of|report to|products|";
+    quote|trade|halt|resume|minute end|fix|close|day length|opening|minute ends of|report to|products|";
 // What else is printed.
 const TEXTS: [u8; 214] =
     *b"\n| |/|=|; |; not |; account |: accepted|: refused |, same book|, BOOK CHANGED|:|\
     , price | rate | amount | valid | of size | and |, clamp |, spread limit |\
     ; positions|; cash| unchanged|NO SUCH FIELD: |NO NUMBER: |-|";
 // The calls of a row.
-const ROW: [u8; 108] =
-    *b"quote 200100/200300|trade 1 2 kind 0 quantity 1 price 200200|halt|resume|minute end 200000|fix 200200|close|";
+const ROW: [u8; 124] =
+    *b"quote 200100/200300|trade 1 2 kind 0 quantity 1 price 200200|halt|resume|minute end 200000|fix 200200|close|\
+    day length 1140|";
 
 pub const END_LINE: usize = 0;
 

@@ -23,9 +23,10 @@ use Rattle.calls.specs.declared.Market.{Market}
 use Rattle.calls.specs.declared.Trade.{Trade}
 use Rattle.calls.specs.declared.Call.{Call}
 use Rattle.calls.specs.Market.{noMarket, asMinute, uncrossed, marketHolds, minuteMarketHolds}
+use Rattle.calls.specs.Length.{isLength}
 use Rattle.day.specs.Day.{dayLength, isFixed}
 use Rattle.figures.specs.Figures.{termsOn, tieOn, tenth}
-use Rattle.day.specs.Effects.{withMarkets, quoted, withFixed}
+use Rattle.day.specs.Effects.{withMarkets, quoted, withFixed, begun}
 use Rattle.outcomes.specs.Effects.{fixedAt, figuresAfter}
 use Rattle.figures.specs.Fixing.{fixPrice, fixRate, fixAmount}
 use Rattle.day.specs.Limits.{mostAmount, marketsHold}
@@ -35,7 +36,7 @@ use Rattle.day.proofs.Held.{HeldDay, HeldFinal, held-final}
 use Rattle.figures.proofs.Rates.{rate-size}
 use Rattle.figures.proofs.Held.{HeldFigures, held-figures, figures-hold, size-most}
 use Rattle.outcomes.proofs.Passed.{PassedFigures, passed-figures}
-use Rattle.day.proofs.Keeping.{as-minute, empty-day, markets-hold, minute-ended, trade-fields}
+use Rattle.day.proofs.Keeping.{as-minute, empty-day, markets-hold, minute-ended, trade-fields, with-length}
 
 -- ---- a fix
 
@@ -52,6 +53,7 @@ module _ (f : Figures) (h : HeldFigures f) (volume : ℕ) (final : HeldFinal (f 
   day-fixed ended =
       let d = h .day in
       record {
+        length = d .length;
         ended = d .ended;
         valid = d .valid;
         weighted = d .weighted;
@@ -61,6 +63,7 @@ module _ (f : Figures) (h : HeldFigures f) (volume : ℕ) (final : HeldFinal (f 
         price = price-at;
         amount = amount-at;
         fix = ap (λ t. not (isPresent (fixPrice f set)) || t) (eq-eqb (f .day .minutes .ended) (dayLength (f .day)) (omega (arith, d .ended))) ∙ or-true (not (isPresent (fixPrice f set)));
+        start = d .start;
       }
 
 -- ---- the calls
@@ -73,10 +76,16 @@ module _ (f : Figures) (a : Accounts) (h : HeldFigures f) where
   with-day : {x : Figures} → x .size ≡ f .size → x .closed ≡ f .closed → x .previous ≡ f .previous → HeldDay (x .day) → HeldFigures x
   with-day {x} size closed previous day = record { size = rw size (h .size); closed = rw closed (h .closed); price = rw previous (h .price); index = rw previous (h .index); day = day }
 
-  with-markets : (m : _) → marketsHold m ≡ true → HeldDay (withMarkets d m)
+  -- the same day, with which the date has begun
+  day-begun : HeldDay (begun d)
+  day-begun =
+      let x = h .day in
+      record { length = x .length; ended = x .ended; valid = x .valid; weighted = x .weighted; markets = x .markets; last = x .last; index = x .index; price = x .price; amount = x .amount; fix = x .fix; start = refl }
+
+  with-markets : (m : _) → marketsHold m ≡ true → HeldDay (begun (withMarkets d m))
   with-markets m hm =
       let x = h .day in
-      record { ended = x .ended; valid = x .valid; weighted = x .weighted; markets = hm; last = x .last; index = x .index; price = x .price; amount = x .amount; fix = x .fix }
+      record { length = x .length; ended = x .ended; valid = x .valid; weighted = x .weighted; markets = hm; last = x .last; index = x .index; price = x .price; amount = x .amount; fix = x .fix; start = refl }
 
   quote-kept : (m : Market) → PassedFigures f (call.Quote m) a → HeldFigures (figuresAfter f (call.Quote m))
   unfolding figuresAfter
@@ -91,7 +100,7 @@ module _ (f : Figures) (a : Accounts) (h : HeldFigures f) where
       let x = h .day in
       let last = none-or-price (t .price) (trade-fields t (p .field) .price) in
       with-day refl refl refl
-      (record { ended = x .ended; valid = x .valid; weighted = x .weighted; markets = x .markets; last = last; index = x .index; price = x .price; amount = x .amount; fix = x .fix })
+      (record { length = x .length; ended = x .ended; valid = x .valid; weighted = x .weighted; markets = x .markets; last = last; index = x .index; price = x .price; amount = x .amount; fix = x .fix; start = refl })
 
   minute-end-kept : (u : ℕ) → PassedFigures f (call.MinuteEnd u) a → HeldFigures (figuresAfter f (call.MinuteEnd u))
   unfolding figuresAfter
@@ -110,15 +119,20 @@ module _ (f : Figures) (a : Accounts) (h : HeldFigures f) where
   close-kept p =
       record { size = h .size; closed = omega (tests, p .full); price = h .day .price; index = h .day .index; day = empty-day }
 
+  length-kept : (l : ℕ) → PassedFigures f (call.DayLength l) a → HeldFigures (figuresAfter f (call.DayLength l))
+  unfolding figuresAfter
+  length-kept l p = with-day refl refl refl (with-length d (h .day) l (p .day) (not-false (isLength l) (p .field)))
+
   pub held-after : (c : Call) (volume : ℕ) → HeldFinal (d .trades .settling) volume → PassedFigures f c a → HeldFigures (figuresAfter f c)
   unfolding figuresAfter
   held-after (call.Quote m) volume final p = quote-kept m p
   held-after (call.Trade t) volume final p = trade-kept t p
   held-after call.Halt volume final p = with-day refl refl refl (with-markets (record { standing = noMarket; minute = noMarket }) refl)
-  held-after call.Resume volume final p = with-day refl refl refl (h .day)
+  held-after call.Resume volume final p = with-day refl refl refl day-begun
   held-after (call.MinuteEnd u) volume final p = minute-end-kept u p
   held-after (call.Fix set) volume final p = fix-kept volume set final p
   held-after call.Close volume final p = close-kept p
+  held-after (call.DayLength l) volume final p = length-kept l p
 
 pub figures-kept : FiguresKept
 figures-kept f c v h final r =

@@ -1,13 +1,17 @@
 -- What an accepted call does to the figures: document 01, "A trade date, call by call".
 use mathlib.Core.Bool.{Bool, true, false}
 use Prim.Native.Nat.{ℕ, _+_}
-use Rattle.day.specs.{declared.Fixed.Fixed, declared.Day.Day, Day.noMarkets, Day.emptyDay, Effects.withMarkets, Effects.withMinutes, Effects.withTrades, Effects.withFixed, Effects.quoted, Effects.traded, Effects.minuteEnded, Effects.nextMinute}
+use Rattle.day.specs.{declared.Fixed.Fixed, declared.Day.Day, Day.noMarkets, Day.emptyDay, Effects.withMarkets, Effects.withMinutes, Effects.withTrades, Effects.withFixed, Effects.quoted, Effects.traded, Effects.minuteEnded, Effects.nextMinute, Effects.begun, Effects.withLength}
 use Rattle.figures.specs.{declared.Figures.Figures, declared.Fixing.Fixing, Figures.termsOn, Figures.noFixing, Fixing.fixPrice, Fixing.fixAmount, Fixing.fixingAt}
 use Rattle.calls.specs.declared.Call.the-variants as call
 use Rattle.calls.specs.{declared.Call.Call, Calls.onFix, Market.isValid}
 
 abbrev pub withDay : Figures → Bool → Day → Figures
 withDay f halted d = record { size = f .size; closed = f .closed; halted = halted; previous = f .previous; day = d }
+
+-- 02-1: with "a date's first accepted quote, trade, halt, resume or minute end", and with a length of day, the date has begun
+abbrev pub called : Figures → Bool → Day → Figures
+called f halted d = withDay f halted (begun d)
 
 -- ---- a fix and a close
 
@@ -29,15 +33,16 @@ closedFigures f = record {
 
 -- 01: "a halt removes the market and the minute's market. Resuming restores neither"
 unfoldable pub figuresAfter : Figures → Call → Figures
-figuresAfter f (call.Quote m) = withDay f (f .halted) (withMarkets (f .day) (quoted (f .day .markets) m))
-figuresAfter f (call.Trade t) = withDay f (f .halted) (withTrades (f .day) (traded (f .day) t))
-figuresAfter f call.Halt = withDay f true (withMarkets (f .day) noMarkets)
-figuresAfter f call.Resume = withDay f false (f .day)
+figuresAfter f (call.Quote m) = called f (f .halted) (withMarkets (f .day) (quoted (f .day .markets) m))
+figuresAfter f (call.Trade t) = called f (f .halted) (withTrades (f .day) (traded (f .day) t))
+figuresAfter f call.Halt = called f true (withMarkets (f .day) noMarkets)
+figuresAfter f call.Resume = called f false (f .day)
 figuresAfter f (call.MinuteEnd u) =
     let valid = isValid (termsOn f) (f .halted) (f .day .markets .minute) u in
-    withDay f (f .halted) (withMinutes (withMarkets (f .day) (nextMinute (f .day .markets))) (minuteEnded (f .day) valid u))
+    called f (f .halted) (withMinutes (withMarkets (f .day) (nextMinute (f .day .markets))) (minuteEnded (f .day) valid u))
 figuresAfter f (call.Fix set) = withDay f (f .halted) (withFixed (f .day) (fixedAt f set))
 figuresAfter f call.Close = closedFigures f
+figuresAfter f (call.DayLength l) = called f (f .halted) (withLength (f .day) l)
 
 -- what the answer to an accepted call says of a fix
 unfoldable pub fixingOf : Figures → Call → Fixing

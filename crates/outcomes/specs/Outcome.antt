@@ -2,15 +2,16 @@
 use mathlib.Core.{Path._≡_, Bool.Bool, Bool.true, Bool.false, Bool.not, Bool.cond, List.List}
 use Prim.Native.Nat.{ℕ}
 use lib.Dec.{eqb}
-use Rattle.calls.specs.{declared.Call.Call, Calls.onMinuteEnd, Calls.onFix, Calls.onClose}
+use Rattle.calls.specs.{declared.Call.Call, Calls.onMinuteEnd, Calls.onFix, Calls.onClose, Calls.onDayLength}
 use Rattle.refusals.specs.Refusals.{Accounts, noAccounts, sentences, firstMet}
-use Rattle.day.specs.{declared.Day.Day, Day.isFixed, Day.forbidsFix, Day.forbidsMinuteEnd, Limits.finalHolds}
+use Rattle.day.specs.{declared.Day.Day, Day.isFixed, Day.forbidsFix, Day.forbidsMinuteEnd, Day.forbidsLength, Limits.finalHolds}
 use Rattle.figures.specs.{declared.Figures.Figures, declared.Outcome.Outcome, Figures.noFixing, Figures.figuresHold, Fixing.fixPrice}
 use Rattle.outcomes.specs.Effects.{figuresAfter, fixingOf}
 
--- 3: "a minute end after 1,320 or after a fix; a fix before 1,320 or twice; a close without a fix"
+-- 3: "a minute end after" the last "or after a fix; a fix before" it "or twice; a close without a fix"; 02-1: "a late or second record"
 abbrev pub dayForbids : Day → Call → Bool
-dayForbids d c = onMinuteEnd (λ u. forbidsMinuteEnd d) (onFix (λ set. forbidsFix d) (onClose (not (isFixed d)) false c) c) c
+dayForbids d c =
+    onMinuteEnd (λ u. forbidsMinuteEnd d) (onFix (λ set. forbidsFix d) (onClose (not (isFixed d)) (onDayLength (λ l. forbidsLength d) false c) c) c) c
 
 -- the sentences of a call on these figures, where its accounts say so much
 abbrev pub sentencesOn : Figures → Call → Accounts → List (ℕ × Bool)

@@ -3,6 +3,7 @@ ghost use mathlib.Core.Path.{_≡_};
 ghost use mathlib.Core.Bool.{true};
 ghost use Prim.Native.Nat.{_≤_};
 ghost use Rattle.refusals.specs.Refusals.{mostDays};
+ghost use Rattle.day.specs.Effects.{begun};
 ghost use Rattle.day.specs.Inner.{RoomForTrade};
 ghost use Rattle.figures.specs.Figures.{numbered, figuresHold};
 ghost use Rattle.figures.specs.Fixing.{Fixable};
@@ -13,25 +14,22 @@ use calls::Market;
 use calls::Trade;
 use day::Day;
 use figures::Figures;
-use figures::Fixing;
 use figures::Outcome;
 use funding::Previous;
 use refusals::fix_code;
 use refusals::halt_code;
+use refusals::length_code;
 use refusals::minute_end_code;
 use refusals::quote_code;
 use refusals::resume_code;
 
-// No refusal, with what a fix found, and the figures with another day.
-fn changed(mut figures: Figures, day: Day, fixing: Fixing) -> Outcome
-    ensures { λ r. ⌜ r ≡ record { code = 0; fixing = fixing; figures = withDay figures (figures .halted) day } ⌝ }
+// No refusal, and the figures with another day: a date that has begun.
+fn changed(mut figures: Figures, day: Day) -> Outcome
+    ensures { λ r. ⌜ r ≡ numbered (withDay figures (figures .halted) (begun day)) 0 ⌝ }
 {
     figures.day = day;
-    Outcome {
-        figures,
-        fixing,
-        code: 0,
-    }
+    figures.day.session.begun = true;
+    Outcome::numbered(figures, 0)
 }
 
 pub fn quote(figures: Figures, market: Market) -> Outcome
@@ -41,7 +39,7 @@ pub fn quote(figures: Figures, market: Market) -> Outcome
     if code != 0 {
         return Outcome::numbered(figures, code);
     }
-    changed(figures, figures.day.quoted(market), Fixing::none())
+    changed(figures, figures.day.quoted(market))
 }
 
 // An accepted trade. Room for it in n and in the gross is required.
@@ -49,7 +47,7 @@ pub fn traded(figures: Figures, t: Trade) -> Outcome
     requires { ⌜ RoomForTrade (figures .day .trades .settling) t ⌝ }
     ensures { λ r. ⌜ r ≡ numbered (figuresAfter figures (Call.Trade t)) 0 ⌝ }
 {
-    changed(figures, figures.day.traded(t), Fixing::none())
+    changed(figures, figures.day.traded(t))
 }
 
 pub fn halt(figures: Figures) -> Outcome
@@ -61,7 +59,7 @@ pub fn halt(figures: Figures) -> Outcome
     }
     let mut after = figures;
     after.halted = true;
-    changed(after, figures.day.without_markets(), Fixing::none())
+    changed(after, figures.day.without_markets())
 }
 
 pub fn resume(figures: Figures) -> Outcome
@@ -73,7 +71,19 @@ pub fn resume(figures: Figures) -> Outcome
     }
     let mut after = figures;
     after.halted = false;
-    changed(after, figures.day, Fixing::none())
+    changed(after, figures.day)
+}
+
+pub fn day_length(figures: Figures, minutes: u32) -> Outcome
+    ensures { λ r. ⌜ r ≡ outcome figures (Call.DayLength minutes) ⌝ }
+{
+    let code = length_code(figures.closed, figures.day.session.begun, minutes);
+    if code != 0 {
+        return Outcome::numbered(figures, code);
+    }
+    let mut day = figures.day;
+    day.session.length = minutes;
+    changed(figures, day)
 }
 
 // Figures within their limits are required, so that the weighted sum fits.
@@ -90,11 +100,7 @@ pub fn minute_end(figures: Figures, index: u32) -> Outcome
         .markets
         .minute
         .is_valid(figures.halted, index, figures.terms());
-    changed(
-        figures,
-        figures.day.minute_ended(valid, index),
-        Fixing::none(),
-    )
+    changed(figures, figures.day.minute_ended(valid, index))
 }
 
 pub fn fix(figures: Figures, set: u32) -> Outcome
@@ -106,11 +112,13 @@ pub fn fix(figures: Figures, set: u32) -> Outcome
     if code != 0 {
         return Outcome::numbered(figures, code);
     }
-    changed(
-        figures,
-        figures.day.fixed(fixing.price, fixing.amount),
+    let mut after = figures;
+    after.day = figures.day.fixed(fixing.price, fixing.amount);
+    Outcome {
+        figures: after,
         fixing,
-    )
+        code: 0,
+    }
 }
 
 // An accepted close.

@@ -56,6 +56,7 @@ fn printed_by(outcome: Outcome, call: Call, place: u64) -> Printed
         Call::MinuteEnd(_) => Printed::Nothing,
         Call::Fix(_) => Printed::Day { day, fixing },
         Call::Close => Printed::Accounts,
+        Call::DayLength(_) => Printed::Nothing,
     }
 }
 

@@ -3,7 +3,7 @@ use mathlib.Core.{Bool.Bool, Bool.false, Bool.not, Bool.cond, Bool._&&_, Bool._|
 use Prim.Native.Nat.{ℕ}
 use lib.Dec.{leb}
 use Rattle.funding.specs.Price.{isPresent, noneOrPrice, noneOrTicked}
-use Rattle.calls.specs.{declared.Call.Call, Calls.onQuote, Calls.onTrade, Calls.onHalt, Calls.onResume, Calls.onMinuteEnd, Calls.onFix, Market.uncrossed, Trade.tradeOutside}
+use Rattle.calls.specs.{declared.Call.Call, Calls.onQuote, Calls.onTrade, Calls.onHalt, Calls.onResume, Calls.onMinuteEnd, Calls.onFix, Calls.onDayLength, Length.isLength, Market.uncrossed, Trade.tradeOutside}
 
 -- 01: "closed days 0 to 2,600"
 abbrev pub mostDays : ℕ
@@ -17,11 +17,12 @@ isFull closed = leb mostDays closed
 abbrev pub haltForbids : Bool → Call → Bool
 haltForbids halted c = onTrade (λ t. halted) (onQuote (λ m. halted) (onHalt halted (onResume (not halted) false c) c) c) c
 
--- 5: "A value is outside its field: …; a nonzero quote side … not ticked; an index or set price neither 0 nor a price"
+-- 5: "A value is outside its field: …; a nonzero quote side … not ticked; an index or set price neither 0 nor a price"; 02-1: "Any other length is refused by 5"
 abbrev pub outsideField : Call → Bool
 outsideField c =
     onQuote (λ m. not (noneOrTicked (m .bid) && noneOrTicked (m .offer)))
-    (onTrade tradeOutside (onMinuteEnd (λ u. not (noneOrPrice u)) (onFix (λ set. not (noneOrPrice set)) false c) c) c) c
+    (onTrade tradeOutside
+    (onMinuteEnd (λ u. not (noneOrPrice u)) (onFix (λ set. not (noneOrPrice set)) (onDayLength (λ l. not (isLength l)) false c) c) c) c) c
 
 -- 6: "Both quote sides stand and the bid isn't below the offer"
 abbrev pub crossed : Call → Bool

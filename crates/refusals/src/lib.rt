@@ -5,6 +5,7 @@ ghost use Rattle.refusals.specs.Refusals.{isFull, refusalBy};
 use calls::Call;
 use calls::Market;
 use calls::Trade;
+use calls::is_length;
 use funding::none_or_price;
 use funding::none_or_ticked;
 
@@ -83,6 +84,19 @@ pub fn minute_end_code(closed: u32, forbidden: bool, index: u32) -> u8
         return 3;
     }
     if !none_or_price(index) {
+        return 5;
+    }
+    0
+}
+
+// Refusal 4 doesn't name a length of day: a halt that carried over leaves it.
+pub fn length_code(closed: u32, forbidden: bool, minutes: u32) -> u8
+    ensures { λ r. ⌜ r ≡ refusalBy closed forbidden false 0 (Call.DayLength minutes) ⌝ }
+{
+    if is_full(closed) | forbidden {
+        return 3;
+    }
+    if !is_length(minutes) {
         return 5;
     }
     0

@@ -39,6 +39,15 @@ four-bytes-requires-2 c κs = omega (arith, ap bodyLength (c .enum-told6 .given 
 enum-told-7 : tie.Need-enum-told-7
 enum-told-7 c = search needs
 
+enum-told-8 : tie.Need-enum-told-8
+enum-told-8 c = search needs
+
+two-bytes-requires : tie.Need-two-bytes-requires
+two-bytes-requires c κs = omega (arith, ap bodyLength (c .enum-told8 .given .1))
+
+cast-t10 : tie.Need-cast-t10
+cast-t10 c = search needs
+
 returns : tie.Need-returns
 returns c = simp (c .before .enum-told .given .1, c .trade-at .ensures)
 
@@ -60,6 +69,9 @@ returns-6 c = simp (c .before .enum-told6 .given .1, c .four-bytes2 .ensures)
 returns-7 : tie.Need-returns-7
 returns-7 c = search needs
 
+returns-8 : tie.Need-returns-8
+returns-8 c = simp (c .before .enum-told8 .given .1, c .two-bytes .ensures .0)
+
 pub call-of-spec : {M : Type 1} → statement M
 call-of-spec =
     tie.close
@@ -75,10 +87,14 @@ call-of-spec =
     enum-told-6
     four-bytes-requires-2
     enum-told-7
+    enum-told-8
+    two-bytes-requires
+    cast-t10
     returns
     returns-2
     returns-3
     returns-4
     returns-5
     returns-6
-    returns-7)
+    returns-7
+    returns-8)

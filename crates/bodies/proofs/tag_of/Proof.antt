@@ -34,7 +34,11 @@ returns-7 c = simp (c .match .keys7)
 
 returns-8 : tie.Need-returns-8
 unfolding tagOf
-returns-8 c =
+returns-8 c = simp (c .match .keys8)
+
+returns-9 : tie.Need-returns-9
+unfolding tagOf
+returns-9 c =
     let r = c .match .rest in
     simp (
       ne-eqb _ _ (r .1),
@@ -44,9 +48,10 @@ returns-8 c =
       ne-eqb _ _ (r .0 .0 .0 .0 .1),
       ne-eqb _ _ (r .0 .0 .0 .0 .0 .1),
       ne-eqb _ _ (r .0 .0 .0 .0 .0 .0 .1),
+      ne-eqb _ _ (r .0 .0 .0 .0 .0 .0 .0 .1),
     )
 
 pub tag-of-spec : {M : Type 1} → statement M
 tag-of-spec =
     tie.close
-    (tie.spec returns returns-2 returns-3 returns-4 returns-5 returns-6 returns-7 returns-8)
+    (tie.spec returns returns-2 returns-3 returns-4 returns-5 returns-6 returns-7 returns-8 returns-9)

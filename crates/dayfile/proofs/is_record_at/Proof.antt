@@ -22,6 +22,7 @@ short tag.Halt = omega arith
 short tag.Resume = omega arith
 short tag.Fix = omega arith
 short tag.Close = omega arith
+short tag.DayLength = omega arith
 
 -- it ends within the file
 inside : (c : tie.Else2) → let s = c .before .before .before .before .args in leb (bodyAt (s .at) + bodyLength (s .tag)) (length (s .file .now)) ≡ true

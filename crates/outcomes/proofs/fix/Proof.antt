@@ -37,17 +37,14 @@ returns c =
 fixed-requires : tie.Need-fixed-requires
 fixed-requires c κs = search needs
 
-changed-requires : tie.Need-changed-requires
-changed-requires c κs = search needs
-
 returns-2 : tie.Need-returns-2
 unfolding figuresAfter fixingOf
 returns-2 c =
-    let t = c .before .before .before in
+    let t = c .before .before in
     let a = t .before .before .before .before .args in
     let x = t .before .before .before .fixing in
     let s : SFits w64 (x .result .amount) = search needs in
-    accepted-is (a .figures) (call.Fix (a .set)) (code-is (t .before)) (t .if1 .left) (c .changed .ensures ∙ rw (c .before .fixed .ensures, toZ-ofZ s, x .ensures))
+    accepted-is (a .figures) (call.Fix (a .set)) (code-is (t .before)) (t .if1 .left) (rw (c .fixed .ensures, toZ-ofZ s, x .ensures))
 
 pub fix-spec : {M : Type 1} → statement M
 fix-spec =
@@ -59,5 +56,4 @@ fix-spec =
     numbered-requires
     returns
     fixed-requires
-    changed-requires
     returns-2)

@@ -23,18 +23,15 @@ returns c =
 without-markets-requires : tie.Need-without-markets-requires
 without-markets-requires c κs = search needs
 
-none-requires : tie.Need-none-requires
-none-requires c κs = search needs
-
 changed-requires : tie.Need-changed-requires
 changed-requires c κs = search needs
 
 returns-2 : tie.Need-returns-2
 unfolding figuresAfter fixingOf
 returns-2 c =
-    let t = c .before .before .before in
+    let t = c .before .before in
     let a = t .before .before .args in
-    accepted-is (a .figures) call.Halt (t .before .halt-code .ensures ∙ rw or-false) (t .if1 .left) (c .changed .ensures ∙ rw (c .before .none .ensures, c .before .before .without-markets .ensures))
+    accepted-is (a .figures) call.Halt (t .before .halt-code .ensures ∙ rw or-false) (t .if1 .left) (c .changed .ensures ∙ rw (c .before .without-markets .ensures))
 
 pub halt-spec : {M : Type 1} → statement M
 halt-spec =
@@ -44,6 +41,5 @@ halt-spec =
     numbered-requires
     returns
     without-markets-requires
-    none-requires
     changed-requires
     returns-2)

@@ -21,6 +21,7 @@ use Rattle.calls.specs.Market.{twoSided, isValid}
 use Rattle.outcomes.proofs.Outcomes.{refused-is, accepted-is}
 use Rattle.figures.proofs.Held.{held-figures}
 use Rattle.outcomes.proofs.Passed.{passed-figures}
+use Rattle.day.proofs.Held.{day-most}
 use Rattle.day.proofs.Keeping.{accrues}
 use Rattle.outcomes.proofs.minute_end.Statement.{statement}
 use Rattle.outcomes.proofs.minute_end.Tie as tie
@@ -79,14 +80,11 @@ minute-ended-requires c κs =
     let before : d .minutes .ended < dayLength d = omega (tests, none (leb (dayLength d) (d .minutes .ended)) (isFixed d ∷ []) (p .day) 0) in
     let valid : c .is-valid .result ≡ true → isValid (termsOn f) (f .halted) (d .markets .minute) u ≡ true = λ e. sym (is-valid-is c) ∙ e in
     record {
-      ended = before;
-      count = omega (arith, h .day .ended, h .day .valid);
+      ended = omega (arith, day-most d (h .day));
+      count = omega (arith, h .day .ended, h .day .valid, day-most d (h .day));
       present = λ e. present f u (valid e);
       accrues = λ e. accrues d (h .day) (termsOn f) (f .halted) u before (not-false (noneOrPrice u) (p .field)) (valid e);
     }
-
-none-requires : tie.Need-none-requires
-none-requires c κs = search needs
 
 changed-requires : tie.Need-changed-requires
 changed-requires c κs = search needs
@@ -94,10 +92,10 @@ changed-requires c κs = search needs
 returns-2 : tie.Need-returns-2
 unfolding figuresAfter fixingOf
 returns-2 c =
-    let t = c .before .before .before .before .before in
+    let t = c .before .before .before .before in
     let a = t .before .before .before .args in
     accepted-is (a .figures) (call.MinuteEnd (a .index)) (code-is (t .before)) (t .if1 .left)
-    (c .changed .ensures ∙ rw (c .before .none .ensures, c .before .before .minute-ended .ensures, is-valid-is (c .before .before .before)))
+    (c .changed .ensures ∙ rw (c .before .minute-ended .ensures, is-valid-is (c .before .before)))
 
 pub minute-end-spec : {M : Type 1} → statement M
 minute-end-spec =
@@ -110,6 +108,5 @@ minute-end-spec =
     terms-requires
     is-valid-requires
     minute-ended-requires
-    none-requires
     changed-requires
     returns-2)

@@ -22,18 +22,15 @@ returns c =
 quoted-requires : tie.Need-quoted-requires
 quoted-requires c κs = search needs
 
-none-requires : tie.Need-none-requires
-none-requires c κs = search needs
-
 changed-requires : tie.Need-changed-requires
 changed-requires c κs = search needs
 
 returns-2 : tie.Need-returns-2
 unfolding figuresAfter fixingOf
 returns-2 c =
-    let t = c .before .before .before in
+    let t = c .before .before in
     let a = t .before .before .args in
-    accepted-is (a .figures) (call.Quote (a .market)) (t .before .quote-code .ensures) (t .if1 .left) (c .changed .ensures ∙ rw (c .before .none .ensures, c .before .before .quoted .ensures))
+    accepted-is (a .figures) (call.Quote (a .market)) (t .before .quote-code .ensures) (t .if1 .left) (c .changed .ensures ∙ rw (c .before .quoted .ensures))
 
 pub quote-spec : {M : Type 1} → statement M
 quote-spec =
@@ -43,6 +40,5 @@ quote-spec =
     numbered-requires
     returns
     quoted-requires
-    none-requires
     changed-requires
     returns-2)

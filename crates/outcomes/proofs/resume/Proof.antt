@@ -20,18 +20,15 @@ returns c =
     let a = t .before .before .args in
     refused-is (a .figures) call.Resume (t .before .resume-code .ensures ∙ rw or-false) (t .if1 .taken) (c .numbered .ensures)
 
-none-requires : tie.Need-none-requires
-none-requires c κs = search needs
-
 changed-requires : tie.Need-changed-requires
 changed-requires c κs = search needs
 
 returns-2 : tie.Need-returns-2
 unfolding figuresAfter fixingOf
 returns-2 c =
-    let t = c .before .before in
+    let t = c .before in
     let a = t .before .before .args in
-    accepted-is (a .figures) call.Resume (t .before .resume-code .ensures ∙ rw or-false) (t .if1 .left) (c .changed .ensures ∙ rw (c .before .none .ensures))
+    accepted-is (a .figures) call.Resume (t .before .resume-code .ensures ∙ rw or-false) (t .if1 .left) (c .changed .ensures)
 
 pub resume-spec : {M : Type 1} → statement M
 resume-spec =
@@ -40,6 +37,5 @@ resume-spec =
     resume-code-requires
     numbered-requires
     returns
-    none-requires
     changed-requires
     returns-2)

@@ -7,15 +7,12 @@ use Rattle.outcomes.proofs.traded.Tie as tie
 traded-requires : tie.Need-traded-requires
 traded-requires c κs = search needs
 
-none-requires : tie.Need-none-requires
-none-requires c κs = search needs
-
 changed-requires : tie.Need-changed-requires
 changed-requires c κs = search needs
 
 returns : tie.Need-returns
 unfolding figuresAfter
-returns c = rw (c .changed .ensures, c .before .none .ensures, c .before .before .traded .ensures)
+returns c = rw (c .changed .ensures, c .before .traded .ensures)
 
 pub traded-spec : {M : Type 1} → statement M
-traded-spec = tie.close (tie.spec traded-requires none-requires changed-requires returns)
+traded-spec = tie.close (tie.spec traded-requires changed-requires returns)

@@ -37,6 +37,9 @@ enum-told-6 c = search needs
 enum-told-7 : tie.Need-enum-told-7
 enum-told-7 c = search needs
 
+enum-told-8 : tie.Need-enum-told-8
+enum-told-8 c = search needs
+
 returns-2 : tie.Need-returns-2
 returns-2 c = rw (c .before .before .before .before .if1 .left, c .enum-told .given .1)
 
@@ -58,6 +61,9 @@ returns-7 c = rw (c .before .before .before .before .if1 .left, c .enum-told6 .g
 returns-8 : tie.Need-returns-8
 returns-8 c = rw (c .before .before .before .before .if1 .left, c .enum-told7 .given .1)
 
+returns-9 : tie.Need-returns-9
+returns-9 c = rw (c .before .before .before .before .if1 .left, c .enum-told8 .given .1)
+
 pub printed-by-spec : {M : Type 1} → statement M
 printed-by-spec =
     tie.close
@@ -73,10 +79,12 @@ printed-by-spec =
     enum-told-5
     enum-told-6
     enum-told-7
+    enum-told-8
     returns-2
     returns-3
     returns-4
     returns-5
     returns-6
     returns-7
-    returns-8)
+    returns-8
+    returns-9)

@@ -22,9 +22,6 @@ none-or-price-requires-3 c κs = search needs
 is-within-requires : tie.Need-is-within-requires
 is-within-requires c κs = search needs
 
-length-requires : tie.Need-length-requires
-length-requires c κs = search needs
-
 minutes-hold-requires : tie.Need-minutes-hold-requires
 minutes-hold-requires c κs = search needs
 
@@ -34,8 +31,7 @@ holds-requires c κs = search needs
 returns : tie.Need-returns
 unfolding dayHolds
 returns c =
-    let l = c .before .before .before in
-    let w = l .before .before in
+    let w = c .before .before .before .before .before .before .before in
     let p = w .before .before in
     rw (
       c .before .minutes-hold .ensures,
@@ -45,7 +41,6 @@ returns c =
       p .none-or-price3 .ensures,
       w .is-within .ensures,
       toZ-ofZ (amount-fits (w .before)),
-      l .length .ensures,
     )
 
 pub holds-spec : {M : Type 1} → statement M
@@ -56,7 +51,6 @@ holds-spec =
     none-or-price-requires-2
     none-or-price-requires-3
     is-within-requires
-    length-requires
     minutes-hold-requires
     holds-requires
     returns)

@@ -70,6 +70,12 @@ enum-told-3 c = search needs
 close-on-requires : tie.Need-close-on-requires
 close-on-requires c κs = let s = c .before .before .before .before .before .before .before in closable (book s) (s .pre)
 
+enum-known-call-5 : tie.Need-enum-known-call-5
+enum-known-call-5 c = search needs
+
+day-length-requires : tie.Need-day-length-requires
+day-length-requires c κs = search needs
+
 returns : tie.Need-returns
 unfolding effect
 returns c =
@@ -116,6 +122,13 @@ returns-7 c =
     let s = c .before .before .before .before .before .before .before .before in
     on-close accounts (book s) (c .close-on .ensures) ∙ step-within accounts (book s) call.Close (s .pre) ∙ ap (step accounts (book s)) (sym (c .before .before .before .before .before .before .enum-told3 .given .1))
 
+returns-8 : tie.Need-returns-8
+unfolding effect
+returns-8 c =
+    let s = c .before .before .before .before in
+    let k = call.DayLength (c .before .before .call5 .given .0 .0) in
+    on-figures accounts (book s) k refl refl (c .day-length .ensures) ∙ step-within accounts (book s) k (s .pre) ∙ ap (step accounts (book s)) (sym (c .before .before .call5 .given .1))
+
 pub step-on-spec : {M : Type 1} → statement M
 step-on-spec =
     tie.close
@@ -134,10 +147,13 @@ step-on-spec =
     fix-requires
     enum-told-3
     close-on-requires
+    enum-known-call-5
+    day-length-requires
     returns
     returns-2
     returns-3
     returns-4
     returns-5
     returns-6
-    returns-7)
+    returns-7
+    returns-8)

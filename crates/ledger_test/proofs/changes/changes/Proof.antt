@@ -8,7 +8,7 @@ abbrev Inv-loop : tie.InvT-loop
 Inv-loop before after shown changed₀ i₀ changed i = Unit {0}
 
 abbrev μ-loop : tie.MeasureT-loop
-μ-loop before after shown changed₀ i₀ changed i = 1296 - i
+μ-loop before after shown changed₀ i₀ changed i = 1298 - i
 
 loop-holds : tie.Need-loop-holds Inv-loop μ-loop
 loop-holds c = search needs

@@ -8,7 +8,7 @@ abbrev Inv-loop : tie.InvT-loop
 Inv-loop book changed₀ i₀ changed i = Unit {0}
 
 abbrev μ-loop : tie.MeasureT-loop
-μ-loop book changed₀ i₀ changed i = 7 - i
+μ-loop book changed₀ i₀ changed i = 8 - i
 
 print-word-requires : tie.Need-print-word-requires Inv-loop μ-loop
 print-word-requires c κs = search needs
