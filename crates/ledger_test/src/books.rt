@@ -116,11 +116,12 @@ fn with_market(mut day: Day, field: usize, n: u64) -> Day {
 
 fn with_figure(mut figures: Figures, field: usize, n: u64) -> Figures {
     let small = (n % HALF) as u32;
+    let set = small != 0;
     let day = figures.day;
     match field {
         SIZE => figures.size = small,
         CLOSED => figures.closed = small,
-        HALTED => figures.halted = small != 0,
+        HALTED => figures.halted = set,
         PREVIOUS_PRICE => figures.previous.price = small,
         PREVIOUS_INDEX => figures.previous.index = small,
         MINUTES => figures.day.minutes.ended = small,
@@ -135,7 +136,7 @@ fn with_figure(mut figures: Figures, field: usize, n: u64) -> Figures {
         INDEX => figures.day.minutes.index = small,
         FIXED_PRICE => figures.day.fixed.price = small,
         LENGTH => figures.day.session.length = small,
-        BEGUN => figures.day.session.begun = small != 0,
+        BEGUN => figures.day.session.begun = set,
         WEIGHTED | FIXED_AMOUNT => figures.day = with_signed(day, field, as_signed(n)),
         _ => figures.day = with_market(day, field, n),
     }
