@@ -5,7 +5,9 @@ use dayformat::kind::{BLOCK, SIMPLE, SPREAD};
 use reference::refusal::{CROSSED, DAY, FIELD, HALT, NO_PRICE, POSITION, VOLUME};
 
 pub const ACCOUNTS: usize = 256;
-pub const DAY_LENGTH: u32 = 1_320;
+/// The lengths of a day, in minutes.
+pub const FULL_DAY: u32 = 1_320;
+const SHORT_DAY: u32 = 1_140;
 const MOST_DAYS: u32 = 2_600;
 const LEAST_PRICE: u32 = 5_000;
 const LARGEST_PRICE: u32 = 50_000_000;
@@ -35,7 +37,10 @@ pub struct Trade {
 
 #[derive(Default)]
 struct Day {
-    minutes: u32,
+    /// The minutes of its length that are still to end.
+    left: u32,
+    /// Set by a quote, halt, resume or length. A trade and a minute end are seen by `last` and `left`.
+    begun: bool,
     valid: u32,
     weighted: i64,
     market: Market,
@@ -98,6 +103,20 @@ impl Market {
     }
 }
 
+impl Day {
+    fn new() -> Self {
+        Day {
+            left: FULL_DAY,
+            ..Day::default()
+        }
+    }
+
+    /// Whether a call has come after which the length is late.
+    fn has_begun(&self) -> bool {
+        self.begun || self.last != 0 || self.left != FULL_DAY
+    }
+}
+
 impl Trade {
     fn is_in_field(self) -> bool {
         (1..=MOST_QUANTITY).contains(&self.quantity)
@@ -120,7 +139,7 @@ impl Book {
             halted: false,
             previous_price: 0,
             previous_index: 0,
-            day: Day::default(),
+            day: Day::new(),
             opening: [0; ACCOUNTS],
             position: [0; ACCOUNTS],
             cost: [0; ACCOUNTS],
@@ -133,6 +152,15 @@ impl Book {
         self.closed >= MOST_DAYS
     }
 
+    pub fn set_length(&mut self, minutes: u16) -> Answer {
+        refused_if(self.is_full() || self.day.has_begun(), DAY)?;
+        let left = u32::from(minutes);
+        refused_if(left != FULL_DAY && left != SHORT_DAY, FIELD)?;
+        self.day.left = left;
+        self.day.begun = true;
+        Ok(())
+    }
+
     #[inline]
     pub fn quote(&mut self, market: Market) -> Answer {
         refused_if(self.is_full(), DAY)?;
@@ -141,6 +169,7 @@ impl Book {
         refused_if(!stands(market.bid) || !stands(market.offer), FIELD)?;
         let two_sided = market.is_two_sided();
         refused_if(two_sided && market.bid >= market.offer, CROSSED)?;
+        self.day.begun = true;
         self.day.market = market;
         if two_sided {
             self.day.minute = market;
@@ -171,7 +200,7 @@ impl Book {
         self.volume[buyer] += trade.quantity;
         self.volume[seller] += trade.quantity;
         self.day.last = trade.price;
-        if trade.kind == SIMPLE && self.day.minutes == DAY_LENGTH - 1 {
+        if trade.kind == SIMPLE && self.day.left == 1 {
             self.day.contracts += trade.quantity;
             self.day.gross += paid as u64;
         }
@@ -182,6 +211,7 @@ impl Book {
         refused_if(self.is_full(), DAY)?;
         refused_if(self.halted, HALT)?;
         self.halted = true;
+        self.day.begun = true;
         self.day.market = Market::default();
         self.day.minute = Market::default();
         Ok(())
@@ -191,12 +221,13 @@ impl Book {
         refused_if(self.is_full(), DAY)?;
         refused_if(!self.halted, HALT)?;
         self.halted = false;
+        self.day.begun = true;
         Ok(())
     }
 
     #[inline]
     pub fn minute_end(&mut self, index: u32) -> Answer {
-        let over = self.day.minutes >= DAY_LENGTH || self.day.price != 0;
+        let over = self.day.left == 0 || self.day.price != 0;
         refused_if(self.is_full() || over, DAY)?;
         refused_if(index != 0 && !is_price(index), FIELD)?;
         let day = &mut self.day;
@@ -205,19 +236,19 @@ impl Book {
             let basis = basis(day.minute.futures_price(day.last), index);
             day.weighted += i64::from(day.valid) * basis;
         }
-        day.minutes += 1;
+        day.left -= 1;
         day.minute = match day.market.is_two_sided() {
             true => day.market,
             false => Market::default(),
         };
-        if day.minutes == DAY_LENGTH {
+        if day.left == 0 {
             day.index = index;
         }
         Ok(())
     }
 
     pub fn fix(&mut self, set_price: u32) -> Answer {
-        let early = self.day.minutes < DAY_LENGTH || self.day.price != 0;
+        let early = self.day.left != 0 || self.day.price != 0;
         refused_if(self.is_full() || early, DAY)?;
         refused_if(set_price != 0 && !is_price(set_price), FIELD)?;
         let price = self.settlement_price(set_price).ok_or(NO_PRICE)?;
@@ -258,7 +289,7 @@ impl Book {
         self.previous_price = self.day.price;
         self.previous_index = self.day.index;
         self.closed += 1;
-        self.day = Day::default();
+        self.day = Day::new();
         Ok(())
     }
 }

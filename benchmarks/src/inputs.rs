@@ -1,6 +1,6 @@
 //! The files that are timed. Every record of them is accepted.
 
-use crate::book::DAY_LENGTH;
+use crate::book::FULL_DAY;
 use dayformat::{kind, Writer};
 use differential::random::Random;
 
@@ -97,7 +97,7 @@ fn days(name: &'static str, count: u32, minute: impl Fn(&mut File, u32)) -> Inpu
         records: 0,
     };
     for _ in 0..count {
-        for number in 0..DAY_LENGTH {
+        for number in 0..FULL_DAY {
             minute(&mut file, number);
         }
         let set_price = file.near();

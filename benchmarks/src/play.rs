@@ -70,6 +70,9 @@ fn call<'a>(book: &mut Book, file: &'a [u8]) -> Option<(Answer, &'a [u8])> {
             (book.fix(number([a, b, c, d])), next)
         }
         [tag::CLOSE, 0, length::CLOSE, ref next @ ..] => (book.close(), next),
+        [tag::LENGTH_OF_DAY, 0, length::LENGTH_OF_DAY, a, b, ref next @ ..] => {
+            (book.set_length(u16::from_be_bytes([a, b])), next)
+        }
         _ => return None,
     })
 }

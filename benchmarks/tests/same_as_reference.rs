@@ -1,6 +1,7 @@
 //! The ledger that is timed gives the reference's answers, record by record.
 
 use benchmarks::{answers, run, ACCOUNTS};
+use dayformat::Writer;
 use differential::profiles;
 use reference::play::{play, Answer};
 use reference::rules::Rules;
@@ -39,6 +40,30 @@ fn generated_files() {
     for seed in 0..600 {
         expect_same(&format!("seed {seed}"), &profiles::input(seed));
     }
+}
+
+/// Generated files have such days too; these have each length after each, with trades and a late
+/// record around every end.
+#[test]
+fn days_of_both_lengths() {
+    let mut file = Writer::new();
+    for length in [1_140, 1_140, 1_320, 1_320, 1_140] {
+        file.length_of_day(1_141)
+            .length_of_day(length)
+            .length_of_day(1_320)
+            .minute_ends(1_139, 200_000)
+            .trade((3, 7), 0, 12, 200_200)
+            .minute_ends(1, 200_100)
+            .fix(0)
+            .minute_ends(179, 200_200)
+            .trade((7, 9), 0, 5, 200_100)
+            .minute_ends(1, 200_300)
+            .length_of_day(1_140)
+            .fix(0)
+            .trade((7, 9), 0, 5, 200_100)
+            .close();
+    }
+    expect_same("both lengths", &[&[10], &file.bytes[..]].concat());
 }
 
 #[test]

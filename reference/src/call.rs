@@ -1,4 +1,4 @@
-//! The seven calls of a trade date.
+//! The calls of a trade date.
 
 pub type Account = u8;
 
@@ -63,4 +63,6 @@ pub enum Call {
     /// With the set price, 0 for none.
     Fix(u32),
     Close,
+    /// With the minutes.
+    LengthOfDay(u16),
 }

@@ -42,7 +42,7 @@ fn first_record<'a>(file: &'a [u8], rules: &dyn FileRules) -> Option<(Record, &'
 }
 
 /// The call of a known tag and a body of its length. Its fields are read here and not beside their
-/// writer, so that each is written from document 01 and they check each other.
+/// writer, so that each is written from the documents and they check each other.
 fn call(tag: u8, body: &[u8]) -> Call {
     match tag {
         tag::TRADE => Call::Trade(Trade {
@@ -60,6 +60,7 @@ fn call(tag: u8, body: &[u8]) -> Call {
         tag::HALT => Call::Halt,
         tag::RESUME => Call::Resume,
         tag::FIX => Call::Fix(number(body)),
+        tag::LENGTH_OF_DAY => Call::LengthOfDay(number(body) as u16),
         _ => Call::Close,
     }
 }

@@ -1,6 +1,8 @@
-//! The accepted calls since the opening, as lists. Nothing here is a running sum.
+//! The accepted calls since the opening, as lists, beside the records that do nothing. Nothing here is
+//! a running sum.
 
 use crate::call::{Call, Trade};
+use crate::file::Record;
 use crate::terms::ACCOUNTS;
 use std::ops::Range;
 
@@ -12,6 +14,10 @@ pub struct Day {
     pub minute_ends: Vec<usize>,
     /// Place of the fix among the calls.
     pub fix: Option<usize>,
+    /// Place of the length of day among the calls.
+    pub length_of_day: Option<usize>,
+    /// The records that weren't accepted, in order.
+    pub not_accepted: Vec<Record>,
 }
 
 impl Day {
@@ -22,6 +28,7 @@ impl Day {
         match call {
             Call::MinuteEnd(_) => self.minute_ends.push(place),
             Call::Fix(_) => self.fix = Some(place),
+            Call::LengthOfDay(_) => self.length_of_day = Some(place),
             _ => {}
         }
     }
@@ -41,17 +48,29 @@ impl Day {
         }
     }
 
-    /// The index of a minute counted from 1.
+    pub fn given_length(&self) -> Option<u16> {
+        match self.calls[self.length_of_day?] {
+            Call::LengthOfDay(minutes) => Some(minutes),
+            _ => None,
+        }
+    }
+
+    /// The index of a minute counted from 1, 0 before its end.
     pub fn index(&self, minute: usize) -> u32 {
-        match self.calls[self.minute_ends[minute - 1]] {
-            Call::MinuteEnd(index) => index,
+        let minute_end = self.minute_ends.get(minute - 1);
+        match minute_end.map(|place| self.calls[*place]) {
+            Some(Call::MinuteEnd(index)) => index,
             _ => 0,
         }
     }
 
-    /// The calls between the minute end before a minute (counted from 1) and its own.
+    /// The calls between the minute end before a minute (counted from 1) and its own, none before its
+    /// end.
     pub fn calls_of_minute(&self, minute: usize) -> &[Call] {
-        &self.calls[self.places_of_minute(minute)]
+        match minute <= self.ended_minutes() {
+            true => &self.calls[self.places_of_minute(minute)],
+            false => &[],
+        }
     }
 
     pub fn places_of_minute(&self, minute: usize) -> Range<usize> {
@@ -125,8 +144,14 @@ impl History {
                 is_halt: call == Call::Halt,
             }),
             Call::Close => self.days.push(Day::default()),
-            Call::Quote(_) | Call::MinuteEnd(_) | Call::Fix(_) => {}
+            Call::Quote(_) | Call::MinuteEnd(_) | Call::Fix(_) | Call::LengthOfDay(_) => {}
         }
+    }
+
+    /// Adds a record that wasn't accepted.
+    pub fn add_not_accepted(&mut self, record: Record) {
+        let day = self.closed_days();
+        self.days[day].not_accepted.push(record);
     }
 
     fn add_trade(&mut self, trade: Trade) {
@@ -171,6 +196,10 @@ mod tests {
                 Vec::from_iter(day.fix),
                 places(|call| matches!(call, Call::Fix(_)))
             );
+            assert_eq!(
+                Vec::from_iter(day.length_of_day),
+                places(|call| matches!(call, Call::LengthOfDay(_)))
+            );
             let listed = |is_halt| -> Vec<usize> {
                 let of_day = history.halts.iter().filter(|halt| halt.day == number);
                 of_day
@@ -191,8 +220,8 @@ mod tests {
     fn halts_before_a_place() {
         let history = sample();
         let before = |day, place| history.halts_before(day, place).len();
-        assert_eq!([before(0, 7), before(0, 8), before(0, 10)], [0, 1, 3]);
-        assert_eq!([before(1, 0), before(1, 8), before(1, 9)], [3, 4, 5]);
+        assert_eq!([before(0, 8), before(0, 9), before(0, 11)], [0, 1, 3]);
+        assert_eq!([before(1, 0), before(1, 9), before(1, 10)], [3, 4, 5]);
     }
 
     fn trades_by_walking(history: &History, account: u8) -> Vec<AccountTrade> {
@@ -226,6 +255,7 @@ mod tests {
             })
         };
         let day = [
+            Call::LengthOfDay(1_140),
             Call::Quote(Market {
                 bid: 5_000,
                 offer: 5_010,
@@ -242,7 +272,7 @@ mod tests {
             Call::Close,
         ];
         let mut history = History::new(1);
-        for call in day.iter().chain(&day[..10]) {
+        for call in day.iter().chain(&day[..11]) {
             history.add(*call);
         }
         history

@@ -1,4 +1,4 @@
-//! A reference funding ledger, written from document 01 alone.
+//! A reference funding ledger, written from documents 01 and 02 alone.
 //!
 //! It keeps the lists of accepted calls and works every figure out from them with exact
 //! fractions, so that it shares no structure with a ledger that steps a book.

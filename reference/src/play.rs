@@ -43,14 +43,17 @@ pub fn play(size: u8, file: &[u8], rules: Rules) -> Option<Played> {
 }
 
 fn answer(history: &mut History, record: Record, rules: Rules) -> Answer {
-    let call = match record {
-        Record::Unknown => return Answer::Unknown,
-        Record::WrongLength | Record::CutOff => return Answer::Refused(FILE),
-        Record::Call(call) => call,
+    let Record::Call(call) = record else {
+        history.add_not_accepted(record);
+        return match record {
+            Record::Unknown => Answer::Unknown,
+            _ => Answer::Refused(FILE),
+        };
     };
     let refusal = refusal(history, call, rules);
-    if rules.refusals.changes_book(refusal) {
-        history.add(call);
+    match rules.refusals.changes_book(refusal) {
+        true => history.add(call),
+        false => history.add_not_accepted(record),
     }
     refusal.map_or(Answer::Accepted(call), Answer::Refused)
 }

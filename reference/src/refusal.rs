@@ -64,7 +64,7 @@ pub fn refusal(history: &History, call: Call, rules: Rules) -> Option<u8> {
         call,
         rules,
     };
-    let mut order = rules.refusals.checking_order().iter();
+    let mut order = rules.refusals.checking_order(call).iter();
     let first = order.find(|check| asked.meets(**check));
     first.map(|check| check.number())
 }
@@ -94,18 +94,19 @@ impl Asked<'_> {
         }
     }
 
-    /// "Any call on a book with 2,600 closed days; a minute end after 1,320 or after a fix; a fix
-    /// before 1,320 or twice; a close without a fix."
+    /// "Any call on a book with 2,600 closed days"; "a fix [...] twice; a close without a fix".
     fn day_forbids(&self) -> bool {
-        let (refusals, day) = (self.rules.refusals, self.history.open_day());
-        let length = self.rules.calls.day_length(day);
+        let (refusals, history) = (self.rules.refusals, self.history);
+        let day = history.open_day();
+        let length = self.rules.calls.day_length(&history.days);
         let forbidden = match self.call {
             Call::MinuteEnd(_) => refusals.minute_end_is_late(day, length),
-            Call::Fix(_) => day.ended_minutes() < length || day.is_fixed(),
+            Call::Fix(_) => refusals.fix_is_early(day, length) || day.is_fixed(),
             Call::Close => !day.is_fixed(),
-            _ => false,
+            Call::LengthOfDay(_) => refusals.length_of_day_is_late(history),
+            Call::Trade(_) | Call::Quote(_) | Call::Halt | Call::Resume => false,
         };
-        forbidden || self.history.closed_days() >= refusals.most_closed_days()
+        forbidden || history.closed_days() >= refusals.most_closed_days()
     }
 
     fn halt_forbids(&self) -> bool {
@@ -114,7 +115,8 @@ impl Asked<'_> {
         self.rules.refusals.halt_forbids(self.call, halted)
     }
 
-    /// "A nonzero quote side not ticked; an index or set price neither 0 nor a price."
+    /// "A nonzero quote side not ticked; an index or set price neither 0 nor a price"; 02-1: "Any other
+    /// length is refused by 5".
     fn is_outside_field(&self) -> bool {
         let calls = self.rules.calls;
         let is_no_side = |side: u32| side != 0 && !calls.is_ticked_price(side.into());
@@ -124,6 +126,7 @@ impl Asked<'_> {
             Call::MinuteEnd(value) | Call::Fix(value) => {
                 value != 0 && !calls.is_price(value.into())
             }
+            Call::LengthOfDay(minutes) => !calls.is_length(minutes),
             Call::Halt | Call::Resume | Call::Close => false,
         }
     }

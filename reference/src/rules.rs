@@ -1,4 +1,5 @@
-//! The rules that decide what a ledger answers, each with document 01's sentence.
+//! The rules that decide what a ledger answers, each with its sentence of document 01 or, marked
+//! `02-1:`, of request 1 of document 02.
 
 mod calls;
 mod files;
@@ -8,7 +9,7 @@ pub use calls::CallRules;
 pub use files::FileRules;
 pub use refusals::RefusalRules;
 
-/// A ledger's rules. Each part is a trait whose default methods are document 01's.
+/// A ledger's rules. Each part is a trait whose default methods are the documents'.
 #[derive(Clone, Copy)]
 pub struct Rules {
     pub calls: &'static dyn CallRules,
@@ -24,7 +25,7 @@ impl Rules {
     };
 }
 
-/// The ledger of document 01.
+/// The ledger of documents 01 and 02.
 pub struct RightLedger;
 
 impl CallRules for RightLedger {}

@@ -67,15 +67,15 @@ pub fn settlement_price(
 ) -> Option<i128> {
     rules.price_rules().iter().find_map(|rule| match rule {
         PriceRule::SetPrice => Some(i128::from(set_price)).filter(|price| *price != 0),
-        PriceRule::Trades => traded_price(&history.days[day], rules),
+        PriceRule::Trades => traded_price(&history.days[..=day], rules),
         PriceRule::Index => index_price(history, day, rules),
     })
 }
 
-/// "When n > 0, half-even of gross / n."
-fn traded_price(day: &Day, rules: &dyn CallRules) -> Option<i128> {
+/// "When n > 0, half-even of gross / n", for the last of the days.
+fn traded_price(days: &[Day], rules: &dyn CallRules) -> Option<i128> {
     let (mut n, mut gross) = (0, 0);
-    for call in rules.settlement_calls(day) {
+    for call in rules.settlement_calls(days) {
         match call {
             Call::Trade(trade) if rules.counts_in_settlement(*trade) => {
                 n += i128::from(trade.quantity);
@@ -89,11 +89,11 @@ fn traded_price(day: &Day, rules: &dyn CallRules) -> Option<i128> {
 
 /// By the indexes of the day and the closed day before, and that day's price.
 fn index_price(history: &History, day: usize, rules: &dyn CallRules) -> Option<i128> {
-    let (earlier, later) = history.days.split_at(day);
-    let previous_price = match earlier.len() {
+    let previous_price = match day {
         0 => 0,
-        count => fixed_price(history, count - 1, rules)?,
+        _ => fixed_price(history, day - 1, rules)?,
     };
-    let (index, previous_index) = (rules.index(&later[0]), rules.previous_index(earlier));
+    let index = rules.index(&history.days[..=day]);
+    let previous_index = rules.previous_index(&history.days[..day]);
     rules.index_price(index, previous_price, previous_index)
 }

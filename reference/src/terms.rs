@@ -11,6 +11,10 @@ pub const AMOUNT_DIVISOR: i128 = 100_000_000_000;
 /// "Cash is in hundredths of a cent."
 pub const CASH_PER_CENT: i128 = 100;
 
+/// 02-1: the length of day "sets 1,320 or 1,140".
+pub const FULL_DAY: u16 = 1_320;
+pub const SHORT_DAY: u16 = 1_140;
+
 #[derive(Clone, Copy, Debug, PartialEq, Eq)]
 pub struct Terms {
     /// In nano.

@@ -116,6 +116,53 @@ fn the_last_minute_decides_the_price_by_simple_trades() {
     assert_eq!(printout(10, &file), expected);
 }
 
+/// Document 01's example on a short day with trades around its last minute, then a full day.
+#[test]
+fn a_short_day_goes_by_its_own_last_minute() {
+    let mut file = Writer::new();
+    file.length_of_day(1_140)
+        .quote(200_100, 200_300)
+        .minute_ends(1_138, 200_000)
+        .trade((3, 3), 0, 1, 200_300)
+        .trade((3, 3), 1, 1, 200_200)
+        .minute_ends(1, 200_000)
+        .trade((3, 7), 0, 12, 200_200)
+        .minute_ends(1, 200_000)
+        .trade((3, 3), 0, 1, 200_300)
+        .fix(0)
+        .trade((7, 9), 0, 5, 200_100)
+        .close()
+        .minute_ends(1_139, 200_400)
+        .trade((3, 3), 0, 1, 200_300)
+        .minute_ends(1, 200_400)
+        .minute_ends(180, 200_500)
+        .fix(0); // 200,500 + 200,200 − 200,000
+    let expected = "day 1 price 200200 rate 1000000 amount -20 valid 1140\n\
+                    acct 3 net 12 cash -24000\n\
+                    acct 7 net -7 cash 19000\n\
+                    acct 9 net -5 cash 5000\n\
+                    day 2 price 200700 rate 0 amount 0 valid 0\n\
+                    end\n";
+    assert_eq!(printout(10, &file), expected);
+    assert_eq!(c_run(10, &file.bytes).0, 1_149 + 1_322);
+}
+
+#[test]
+fn eight_short_days_fit_the_bench() {
+    let mut file = Writer::new();
+    for _ in 0..9 {
+        file.length_of_day(1_140)
+            .minute_ends(1_140, 0)
+            .fix(200_000)
+            .close();
+    }
+    let text = printout(1, &file);
+    assert!(
+        text.contains("day 8 ") && !text.contains("day 9 "),
+        "{text}"
+    );
+}
+
 #[test]
 fn halts_and_one_sided_markets() {
     let mut file = Writer::new();

@@ -51,6 +51,102 @@ fn refusal_3_comes_with_the_state_of_the_day() {
 }
 
 #[test]
+fn refusal_3_goes_by_the_length_of_day() {
+    let mut file = Writer::new();
+    file.length_of_day(1_140)
+        .minute_ends(1_139, 200_000) // 2 to 1,140
+        .fix(200_000) // 1,141
+        .minute_ends(2, 200_000) // 1,142 and 1,143
+        .fix(200_000)
+        .minute_ends(1, 200_000) // 1,145
+        .close()
+        .minute_ends(1_140, 200_000) // 1,147 to 2,286
+        .fix(200_000) // 2,287
+        .minute_ends(179, 200_000) // 2,288 to 2,466
+        .fix(200_000) // 2,467
+        .minute_ends(2, 200_000) // 2,468 and 2,469
+        .fix(200_000);
+    let expected = [1_141, 1_143, 1_145, 2_287, 2_467, 2_469].map(|place| (3, place));
+    assert_refusals(&file, &expected);
+}
+
+#[test]
+fn a_length_of_day_is_refused_by_5_for_its_value() {
+    let mut file = Writer::new();
+    for minutes in [0, 1_139, 1_141, 1_319, 1_321, u16::MAX, 1_140] {
+        file.length_of_day(minutes);
+    }
+    let expected: Vec<_> = (1..=6).map(|place| (5, place)).collect();
+    assert_refusals(&file, &expected);
+}
+
+/// Whatever its value, and whatever that of the first is.
+#[test]
+fn a_second_length_of_day_is_refused_by_3() {
+    for first in [1_140, 1_320] {
+        for second in [1_140, 1_320, 1_141] {
+            let mut file = Writer::new();
+            file.length_of_day(first).length_of_day(second);
+            assert_refusals(&file, &[(3, 2)]);
+        }
+    }
+}
+
+#[test]
+fn a_length_of_day_after_a_call_that_begins_the_date_is_refused_by_3() {
+    let begins: [fn(&mut Writer) -> &mut Writer; 4] = [
+        |file| file.quote(0, 0),
+        |file| file.trade((1, 1), 1, 1, 5_000),
+        |file| file.halt(),
+        |file| file.minute_ends(1, 0),
+    ];
+    for begin in begins {
+        let mut file = Writer::new();
+        begin(&mut file).length_of_day(1_140).length_of_day(1_141);
+        assert_refusals(&file, &[(3, 2), (3, 3)]);
+    }
+}
+
+#[test]
+fn records_that_are_not_accepted_begin_no_date() {
+    let mut file = Writer::new();
+    file.length_of_day(1_141)
+        .quote(200_000, 200_000)
+        .trade((1, 2), 0, 0, 5_000)
+        .minute_ends(1, 4_999)
+        .resume()
+        .fix(5_000)
+        .close()
+        .record(8, &[4, 116, 0])
+        .record(3, &[])
+        .record(200, &[])
+        .length_of_day(1_140) // 11
+        .length_of_day(1_140);
+    let refused = [5, 6, 5, 5, 4, 3, 3, 1, 1].into_iter().zip(1..);
+    let expected: Vec<_> = refused.chain([(3, 12)]).collect();
+    assert_refusals(&file, &expected);
+}
+
+/// "A halt carries over": neither it nor a call that it refuses begins the next date, its resume does.
+#[test]
+fn a_carried_halt_leaves_the_length_of_day_open_until_its_resume() {
+    let mut file = Writer::new();
+    file.halt()
+        .minute_ends(1_320, 0)
+        .fix(200_000)
+        .close() // 1,323
+        .halt()
+        .quote(0, 0)
+        .length_of_day(1_140) // 1,326
+        .minute_ends(1_140, 0)
+        .fix(200_000)
+        .close() // 2,468
+        .resume()
+        .length_of_day(1_140); // 2,470
+    assert_refusals(&file, &[(4, 1_324), (4, 1_325), (3, 2_470)]);
+}
+
+#[test]
 fn refusal_4_comes_with_a_halt() {
     let mut file = Writer::new();
     file.resume()

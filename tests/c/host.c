@@ -98,6 +98,28 @@ static void the_example_of_document_01(void)
     free(day.bytes);
 }
 
+/* The same day with 1,140 minutes. Refused are another length, a second one and a minute end. */
+static void a_short_day(void)
+{
+    struct file day = {NULL, 0, 0};
+    add_length(&day, 1141);
+    add_length(&day, 1140);
+    add_length(&day, 1320);
+    add_quote(&day, 200100, 200300);
+    add_minute_ends(&day, 1139, 200000);
+    add_trade(&day, 3, 7, 12, 200200);
+    add_minute_ends(&day, 2, 200000);
+    add_fix(&day, 0);
+    add_trade(&day, 7, 9, 5, 200100);
+    add_close(&day);
+    EXPECT(run(10, &day), 1146);
+    expect_account(3, 12, -24000);
+    expect_account(7, -7, 19000);
+    expect_account(9, -5, 5000);
+    EXPECT(accounts_shown(), 3);
+    free(day.bytes);
+}
+
 static void the_open_day_is_reported(void)
 {
     struct file day = example_day();
@@ -166,7 +188,7 @@ static void a_record_cut_off_ends_the_run(void)
 /* Records that aren't accepted, each with a trade after it. */
 static void only_accepted_records_count(void)
 {
-    static const uint8_t known_tags[] = {1, 2, 3, 4, 5, 6, 7};
+    static const uint8_t known_tags[] = {1, 2, 3, 4, 5, 6, 7, 8};
     static const uint8_t body[] = {1, 0, 11, 3, 7};
     struct file day = {NULL, 0, 0};
     int trades = 0;
@@ -176,7 +198,7 @@ static void only_accepted_records_count(void)
         trades++;
     }
     for (int tag = 0; tag <= UINT8_MAX; tag++)
-        if (tag == 0 || tag > 7) {
+        if (tag == 0 || tag > 8) {
             add_record(&day, (uint8_t)tag, body, tag % 2 == 0 ? 0 : sizeof body);
             add_trade(&day, 3, 7, 12, 200200);
             trades++;
@@ -186,6 +208,7 @@ static void only_accepted_records_count(void)
     add_quote(&day, 200300, 200100);
     add_fix(&day, 0);
     add_close(&day);
+    add_length(&day, 1140);
     EXPECT(run(1, &day), trades);
     expect_account(3, 12 * trades, 0);
     expect_account(7, -12 * trades, 0);
@@ -411,6 +434,7 @@ static void only_the_first_bytes_count_for_a_printout(void)
 int main(void)
 {
     the_example_of_document_01();
+    a_short_day();
     the_open_day_is_reported();
     other_sizes_are_refused();
     lists_of_other_lengths_are_refused();
@@ -424,6 +448,6 @@ int main(void)
     nothing_is_written_from_the_end_on();
     a_size_alone_has_a_printout();
     only_the_first_bytes_count_for_a_printout();
-    printf("C interface: 14 tests passed\n");
+    printf("C interface: 15 tests passed\n");
     return 0;
 }

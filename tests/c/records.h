@@ -71,6 +71,12 @@ static void add_fix(struct file *file, uint32_t set_price)
     add_record(file, 6, body, sizeof body);
 }
 
+static void add_length(struct file *file, uint16_t minutes)
+{
+    const uint8_t body[2] = {(uint8_t)(minutes >> 8), (uint8_t)minutes};
+    add_record(file, 8, body, sizeof body);
+}
+
 static void add_close(struct file *file)
 {
     add_record(file, 7, NULL, 0);

@@ -6,11 +6,12 @@ use crate::fraction::Fraction;
 use crate::history::{AccountTrade, Day, HaltOrResume};
 use crate::minutes::{Minute, Start, ValidMinute};
 use crate::settlement::PriceRule;
-use crate::terms::{Terms, AMOUNT_DIVISOR, NANO};
+use crate::terms::{Terms, AMOUNT_DIVISOR, FULL_DAY, NANO, SHORT_DAY};
 use dayformat::kind::SIMPLE;
 use std::cmp::Ordering;
 
-/// Days count from 0, minutes from 1.
+/// Days count from 0, minutes from 1. A rule that takes a list of days is asked about the last of them,
+/// unless they are the earlier ones.
 pub trait CallRules: Sync {
     /// "'Half-even' is the nearest whole number, a tie going to the even one, alike for negative
     /// values."
@@ -51,9 +52,18 @@ pub trait CallRules: Sync {
         self.is_price(value) && value % 10 == 0
     }
 
-    /// "A fixed day has 1,320 ended minutes."
-    fn day_length(&self, _day: &Day) -> usize {
-        1_320
+    // Length of day. 02-1: "The last minute in document 01 is the day's own everywhere: trades for
+    // settlement, index, minute ends and fix allowed." In quotations it is [the last minute].
+
+    /// 02-1: it "sets 1,320 or 1,140".
+    fn is_length(&self, minutes: u16) -> bool {
+        minutes == FULL_DAY || minutes == SHORT_DAY
+    }
+
+    /// 02-1: "Without it the day has 1,320."
+    fn day_length(&self, days: &[Day]) -> usize {
+        let given = days.last().and_then(Day::given_length);
+        given.unwrap_or(FULL_DAY).into()
     }
 
     // Quote, halt and resume.
@@ -106,9 +116,10 @@ pub trait CallRules: Sync {
         trade.kind == SIMPLE
     }
 
-    /// "after minute end 1,319 and before 1,320".
-    fn settlement_calls<'a>(&self, day: &'a Day) -> &'a [Call] {
-        day.calls_of_minute(self.day_length(day))
+    /// "after [the minute end before the last one] and before [the last one]".
+    fn settlement_calls<'a>(&self, days: &'a [Day]) -> &'a [Call] {
+        let length = self.day_length(days);
+        days.last().map_or(&[], |day| day.calls_of_minute(length))
     }
 
     // Minute end.
@@ -154,9 +165,10 @@ pub trait CallRules: Sync {
         standing.unwrap_or(at_start)
     }
 
-    /// "The u of minute 1,320 is the day's index."
-    fn index(&self, day: &Day) -> i128 {
-        day.index(self.day_length(day)).into()
+    /// "The u of [the last minute] is the day's index"; "0 without one".
+    fn index(&self, days: &[Day]) -> i128 {
+        let length = self.day_length(days);
+        days.last().map_or(0, |day| day.index(length).into())
     }
 
     // Fix.
@@ -179,9 +191,9 @@ pub trait CallRules: Sync {
         (given && self.is_price(price)).then_some(price)
     }
 
-    /// "The index of the closed day before, 0 without one."
+    /// "The index of the closed day before."
     fn previous_index(&self, earlier: &[Day]) -> i128 {
-        earlier.last().map_or(0, |day| self.index(day))
+        self.index(earlier)
     }
 
     /// "Rate = half-even of S / (k(k+1)/2)"; `exact` is the quotient.

@@ -1,14 +1,14 @@
 //! Refusals, in checking order.
 
 use crate::call::{Call, Market};
-use crate::history::Day;
+use crate::history::{Day, History};
 use crate::refusal::{Check, CHECKING_ORDER};
 use dayformat::kind::{BLOCK, SIMPLE};
 use std::ops::RangeInclusive;
 
 pub trait RefusalRules: Sync {
     /// "Refusals, in checking order": 3 to 9.
-    fn checking_order(&self) -> &'static [Check] {
+    fn checking_order(&self, _call: Call) -> &'static [Check] {
         &CHECKING_ORDER
     }
 
@@ -17,9 +17,30 @@ pub trait RefusalRules: Sync {
         2_600
     }
 
-    /// 3: "a minute end after 1,320 or after a fix".
+    /// 3: "a minute end after [the last minute] or after a fix".
     fn minute_end_is_late(&self, day: &Day, length: usize) -> bool {
         day.ended_minutes() >= length || day.is_fixed()
+    }
+
+    /// 3: "a fix before [the last minute]".
+    fn fix_is_early(&self, day: &Day, length: usize) -> bool {
+        day.ended_minutes() < length
+    }
+
+    /// 02-1: "a late or second record by 3".
+    fn length_of_day_is_late(&self, history: &History) -> bool {
+        let mut calls = history.open_day().calls.iter();
+        calls.any(|call| self.begins_date(*call))
+    }
+
+    /// 02-1: what the record comes before: "a date's first accepted quote, trade, halt, resume or minute
+    /// end", and another record.
+    fn begins_date(&self, call: Call) -> bool {
+        match call {
+            Call::Quote(_) | Call::Trade(_) | Call::Halt | Call::Resume => true,
+            Call::MinuteEnd(_) | Call::LengthOfDay(_) => true,
+            Call::Fix(_) | Call::Close => false,
+        }
     }
 
     /// 4: "A trade, quote or halt comes while halted, or a resume while not."
@@ -27,7 +48,7 @@ pub trait RefusalRules: Sync {
         match call {
             Call::Trade(_) | Call::Quote(_) | Call::Halt => halted,
             Call::Resume => !halted,
-            Call::MinuteEnd(_) | Call::Fix(_) | Call::Close => false,
+            Call::MinuteEnd(_) | Call::Fix(_) | Call::Close | Call::LengthOfDay(_) => false,
         }
     }
 

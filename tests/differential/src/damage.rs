@@ -6,7 +6,7 @@ use dayformat::{tag, Writer};
 
 /// The file with one damage to it.
 pub fn damage(random: &mut Random, file: &[u8]) -> Vec<u8> {
-    match random.below(10) {
+    match random.below(12) {
         0 => truncate(random, file),
         1 => truncate_record(random, file),
         2 | 3 => insert(random, file, unknown_record),
@@ -15,7 +15,8 @@ pub fn damage(random: &mut Random, file: &[u8]) -> Vec<u8> {
         6 => change_length(random, file),
         7 => rearrange(random, file),
         8 => insert(random, file, random_bytes),
-        _ => insert_many(random, file),
+        9 => insert_many(random, file),
+        _ => damage_length_of_day(random, file),
     }
 }
 
@@ -61,7 +62,7 @@ fn insert_many(random: &mut Random, file: &[u8]) -> Vec<u8> {
 }
 
 fn unknown_record(random: &mut Random) -> Vec<u8> {
-    let tag = random.pick(&[0, 8, 9, 10, 11, 12, 77, 255]);
+    let tag = random.pick(&[0, 9, 10, 11, 12, 77, 255]);
     record(random, tag)
 }
 
@@ -104,8 +105,31 @@ fn change_length(random: &mut Random, file: &[u8]) -> Vec<u8> {
     if !records.is_empty() {
         let at = random.below(records.len() as u32) as usize;
         if let Some(low) = records[at].get_mut(2) {
-            *low = random.pick(&[0, 3, 4, 5, 7, 8, 11, 12, 255]);
+            *low = random.pick(&[0, 2, 3, 4, 5, 7, 8, 11, 12, 255]);
         }
+    }
+    records.concat()
+}
+
+/// Breaks, cuts off, changes, doubles or moves one of the length of day records, if there is one.
+fn damage_length_of_day(random: &mut Random, file: &[u8]) -> Vec<u8> {
+    let mut records = split(file);
+    let is_length = |place: &usize| records[*place][0] == tag::LENGTH_OF_DAY;
+    let places: Vec<usize> = (0..records.len()).filter(is_length).collect();
+    if places.is_empty() {
+        return file.to_vec();
+    }
+    let at = random.pick(&places);
+    let next = (at + 1).min(records.len() - 1);
+    match random.below(5) {
+        0 => records[at] = record(random, tag::LENGTH_OF_DAY),
+        1 => {
+            records.truncate(at + 1);
+            records[at].truncate(random.between(1, 4) as usize);
+        }
+        2 => records[at] = change_byte(random, &records[at]),
+        3 => records.insert(at, records[at].clone()),
+        _ => records.swap(at, next),
     }
     records.concat()
 }

@@ -2,8 +2,7 @@
 
 use crate::random::Random;
 use dayformat::{kind, Writer};
-
-pub const MINUTES: usize = 1_320;
+use reference::terms::{FULL_DAY, SHORT_DAY};
 
 /// The most minutes that the events of one minute may end themselves.
 const LONGEST_EVENTS: usize = 4;
@@ -15,6 +14,16 @@ pub struct Generator {
     /// The ticked price that quotes, trades and indexes lie around.
     pub level: u32,
 }
+
+/// No lengths of a day: at both ends of the field and beside the two lengths.
+const REFUSED_LENGTHS: [u16; 6] = [
+    0,
+    SHORT_DAY - 1,
+    SHORT_DAY + 1,
+    FULL_DAY - 1,
+    FULL_DAY + 1,
+    u16::MAX,
+];
 
 /// Few accounts, so that they meet often, with both ends of the range.
 const ACCOUNTS: [u8; 6] = [0, 3, 7, 9, 254, 255];
@@ -44,6 +53,37 @@ impl Generator {
         let mut input = vec![self.size];
         input.extend(self.file.bytes);
         input
+    }
+
+    /// The start of a date, now and then with its length of day. It gives the minutes of the date.
+    pub fn start_date(&mut self) -> usize {
+        match self.random.below(10) {
+            0..=2 => self.length_of_day(SHORT_DAY),
+            3 => self.length_of_day(FULL_DAY),
+            _ => FULL_DAY.into(),
+        }
+    }
+
+    pub fn length_of_day(&mut self, minutes: u16) -> usize {
+        self.file.length_of_day(minutes);
+        minutes.into()
+    }
+
+    pub fn refused_length_of_day(&mut self) {
+        let minutes = self.random.pick(&REFUSED_LENGTHS);
+        self.file.length_of_day(minutes);
+    }
+
+    pub fn any_length_of_day(&mut self) {
+        match self.random.below(3) {
+            0 => {
+                self.file.length_of_day(FULL_DAY);
+            }
+            1 => {
+                self.file.length_of_day(SHORT_DAY);
+            }
+            _ => self.refused_length_of_day(),
+        }
     }
 
     pub fn account(&mut self) -> u8 {

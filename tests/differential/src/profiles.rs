@@ -2,14 +2,16 @@
 
 mod days;
 mod files;
+mod lengths;
 mod limits;
 mod markets;
 mod settlements;
 
 use crate::damage::damage;
-use crate::generator::{Generator, MINUTES};
+use crate::generator::Generator;
+use reference::terms::SHORT_DAY;
 
-const PROFILES: [fn(&mut Generator); 17] = [
+const PROFILES: [fn(&mut Generator); 19] = [
     markets::busy_days,
     markets::few_valid_minutes,
     markets::half_pennies,
@@ -24,6 +26,8 @@ const PROFILES: [fn(&mut Generator); 17] = [
     limits::fields,
     days::out_of_order,
     days::short_files,
+    lengths::starts_of_dates,
+    lengths::last_minutes,
     files::random_bytes,
     files::random_bodies,
     files::bench_limit,
@@ -60,15 +64,17 @@ fn refused_or_empty(mut generator: Generator) -> Vec<u8> {
 pub fn long_input(seed: u64) -> Vec<u8> {
     let mut generator = Generator::new(seed);
     for _ in 0..2_602 {
+        let length = generator.start_date();
         if generator.random.chance(50) {
             generator.any_trade();
         }
         if generator.random.chance(50) {
             generator.tight_quote();
         }
-        generator.quiet_minutes(MINUTES);
+        generator.quiet_minutes(length);
         let set_price = generator.near_price();
         generator.file.fix(set_price).close();
     }
+    generator.file.length_of_day(SHORT_DAY);
     generator.input()
 }

@@ -3,6 +3,7 @@
 
 mod accounts;
 mod files;
+mod lengths;
 mod minutes;
 mod refusals;
 mod rounding;
@@ -10,6 +11,7 @@ mod settlement;
 
 use accounts::*;
 use files::*;
+use lengths::*;
 use minutes::*;
 use reference::rules::{CallRules, FileRules, RefusalRules, Rules};
 use refusals::*;
@@ -50,7 +52,7 @@ const fn in_files(name: &'static str, files: &'static dyn FileRules) -> WrongLed
 }
 
 /// A static, so that their rules are compiled here alone.
-pub static ALL: [WrongLedger; 62] = [
+pub static ALL: [WrongLedger; 87] = [
     // Rounding.
     in_calls("tie-up", &TieUp),
     in_calls("tie-away-from-zero", &TieAwayFromZero),
@@ -108,6 +110,32 @@ pub static ALL: [WrongLedger; 62] = [
     in_calls("price-limits-one-less", &PriceLimitsOneLess),
     in_refusals("spread-trades-ticked", &SpreadTradesTicked),
     in_refusals("equal-sides-stand", &EqualSidesStand),
+    // Lengths of day.
+    in_calls("settlement-in-minute-1320", &SettlementInMinute1320),
+    in_calls("index-of-minute-1320", &IndexOfMinute1320),
+    in_refusals("minute-ends-to-1320", &MinuteEndsTo1320),
+    in_refusals("fix-from-1320", &FixFrom1320),
+    in_refusals("fix-from-1140", &FixFrom1140),
+    in_refusals("fix-one-minute-early", &FixOneMinuteEarly),
+    in_calls("close-keeps-length", &CloseKeepsLength),
+    in_refusals("close-keeps-begun", &CloseKeepsBegun),
+    in_calls("length-1320-refused", &LENGTH_1320_REFUSED),
+    in_calls("any-length-to-1320", &ANY_LENGTH_TO_1320),
+    in_calls("any-length-from-1140", &ANY_LENGTH_FROM_1140),
+    in_refusals("length-after-length", &LENGTH_AFTER_LENGTH),
+    in_refusals("length-after-1320", &LENGTH_AFTER_1320),
+    in_refusals("length-after-quote", &LENGTH_AFTER_QUOTE),
+    in_refusals("length-after-trade", &LENGTH_AFTER_TRADE),
+    in_refusals("length-after-halt", &LENGTH_AFTER_HALT),
+    in_refusals("length-after-resume", &LENGTH_AFTER_RESUME),
+    in_refusals("length-after-minute-end", &LENGTH_AFTER_MINUTE_END),
+    in_refusals("length-refused-in-halt", &LengthRefusedInHalt),
+    in_refusals("length-field-before-day", &LengthFieldBeforeDay),
+    in_refusals("carried-halt-begins-date", &CarriedHaltBeginsDate),
+    in_refusals("refused-length-begins-date", &REFUSED_LENGTH_BEGINS_DATE),
+    in_refusals("refused-call-begins-date", &REFUSED_CALL_BEGINS_DATE),
+    in_refusals("wrong-length-begins-date", &WRONG_LENGTH_BEGINS_DATE),
+    in_refusals("unknown-begins-date", &UNKNOWN_BEGINS_DATE),
     // Files, printouts and reports.
     in_files("close-prints-both-nonzero", &ClosePrintsBothNonzero),
     in_files("unknown-not-in-places", &UnknownNotInPlaces),

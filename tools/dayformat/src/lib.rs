@@ -14,8 +14,18 @@ pub mod tag {
     pub const RESUME: u8 = 5;
     pub const FIX: u8 = 6;
     pub const CLOSE: u8 = 7;
+    pub const LENGTH_OF_DAY: u8 = 8;
 
-    pub const KNOWN: [u8; 7] = [TRADE, QUOTE, MINUTE_END, HALT, RESUME, FIX, CLOSE];
+    pub const KNOWN: [u8; 8] = [
+        TRADE,
+        QUOTE,
+        MINUTE_END,
+        HALT,
+        RESUME,
+        FIX,
+        CLOSE,
+        LENGTH_OF_DAY,
+    ];
 }
 
 /// The bytes of each body. None needs the high byte of a length.
@@ -31,6 +41,8 @@ pub mod length {
     /// Set price 4.
     pub const FIX: u8 = 4;
     pub const CLOSE: u8 = 0;
+    /// Minutes 2.
+    pub const LENGTH_OF_DAY: u8 = 2;
 }
 
 /// "Kind 0 simple, 1 spread against spread, 2 block."
@@ -59,6 +71,7 @@ pub fn body_length(tag: u8) -> Option<usize> {
         tag::RESUME => length::RESUME,
         tag::FIX => length::FIX,
         tag::CLOSE => length::CLOSE,
+        tag::LENGTH_OF_DAY => length::LENGTH_OF_DAY,
         _ => return None,
     };
     Some(length.into())
@@ -75,10 +88,19 @@ pub fn header(bytes: &[u8]) -> Option<(u8, usize, &[u8])> {
 mod tests {
     use super::*;
 
-    /// The numbers once more, as document 01 lists them.
+    /// The numbers once more, as documents 01 and 02 list them.
     #[test]
-    fn tags_and_lengths_are_those_of_document_01() {
-        let lengths = [(1, 11), (2, 8), (3, 4), (4, 0), (5, 0), (6, 4), (7, 0)];
+    fn tags_and_lengths_are_those_of_the_documents() {
+        let lengths = [
+            (1, 11),
+            (2, 8),
+            (3, 4),
+            (4, 0),
+            (5, 0),
+            (6, 4),
+            (7, 0),
+            (8, 2),
+        ];
         assert_eq!(tag::KNOWN, lengths.map(|(tag, _)| tag));
         for tag in 0..=u8::MAX {
             let listed = lengths.iter().find(|(known, _)| *known == tag);

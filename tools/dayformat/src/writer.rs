@@ -57,6 +57,10 @@ impl Writer {
     pub fn close(&mut self) -> &mut Self {
         self.record(tag::CLOSE, &[])
     }
+
+    pub fn length_of_day(&mut self, minutes: u16) -> &mut Self {
+        self.record(tag::LENGTH_OF_DAY, &minutes.to_be_bytes())
+    }
 }
 
 #[cfg(test)]
@@ -69,6 +73,7 @@ mod tests {
         let mut file = Writer::new();
         file.trade((3, 7), 0, 12, 200_200).quote(200_100, 200_300);
         file.minute_ends(1, 200_000).halt().resume().fix(0).close();
+        file.length_of_day(1_140);
         let (mut rest, mut tags) = (&file.bytes[..], Vec::new());
         while let Some((tag, length, after)) = header(rest) {
             assert_eq!(body_length(tag), Some(length));

@@ -77,6 +77,7 @@ impl fmt::Display for Record {
             Record::Fix { price: 0 } => write!(formatter, "fix"),
             Record::Fix { price } => write!(formatter, "fix {price}"),
             Record::Close => write!(formatter, "close"),
+            Record::LengthOfDay { minutes } => write!(formatter, "length {minutes}"),
             Record::Other { tag, body } => write!(formatter, "record {tag}{}", Bytes(body)),
         }
     }

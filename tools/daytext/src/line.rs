@@ -52,6 +52,7 @@ impl Words<'_> {
 
     fn record(&mut self, first: &str) -> Result<Record, String> {
         match first {
+            "length" => self.length_of_day(),
             "trade" => self.trade(),
             "quote" => Ok(Record::Quote {
                 bid: self.number_or_none("bid")?,
@@ -66,10 +67,17 @@ impl Words<'_> {
             "close" => Ok(Record::Close),
             "record" => self.other(),
             _ => Err(format!(
-                "\"{first}\" begins no line; expected size, quote, trade, minute, halt, \
-                 resume, fix, close, record or bytes"
+                "\"{first}\" begins no line; expected size, length, quote, trade, minute, \
+                 halt, resume, fix, close, record or bytes"
             )),
         }
+    }
+
+    fn length_of_day(&mut self) -> Result<Record, String> {
+        let minutes = self.number("length of day", 0..=u32::from(u16::MAX), "")?;
+        Ok(Record::LengthOfDay {
+            minutes: u16::try_from(minutes).expect("the number is at most 65,535"),
+        })
     }
 
     fn trade(&mut self) -> Result<Record, String> {

@@ -20,6 +20,7 @@ Errors go to standard error with their line; the exit status is then 1.
 The text has one call a line; # begins a comment.
 
   size 10                          first; 1 or 10, or missing for an empty file
+  length 1140                      or 1320 minutes, before a date's first call
   quote 200100 200300              bid, offer; - for none
   trade 3 7 simple 12 at 200200    buyer, seller, kind, quantity, price;
                                    kinds: simple, spread, block, or a number

@@ -1,6 +1,6 @@
 //! The records of a day file, each with its fields.
 
-use dayformat::tag::{CLOSE, FIX, HALT, MINUTE_END, QUOTE, RESUME, TRADE};
+use dayformat::tag::{CLOSE, FIX, HALT, LENGTH_OF_DAY, MINUTE_END, QUOTE, RESUME, TRADE};
 use dayformat::{header, kind, Writer};
 
 /// The kinds of trades that have a word.
@@ -32,6 +32,9 @@ pub enum Record {
         price: u32,
     },
     Close,
+    LengthOfDay {
+        minutes: u16,
+    },
     /// An unknown tag, or a known one with a wrong length.
     Other {
         tag: u8,
@@ -63,6 +66,9 @@ impl Record {
                 price: u32::from_be_bytes([a, b, c, d]),
             },
             (CLOSE, []) => Record::Close,
+            (LENGTH_OF_DAY, &[a, b]) => Record::LengthOfDay {
+                minutes: u16::from_be_bytes([a, b]),
+            },
             _ => Record::Other {
                 tag,
                 body: body.to_vec(),
@@ -93,6 +99,7 @@ impl Record {
             Record::Resume => file.resume(),
             Record::Fix { price } => file.fix(*price),
             Record::Close => file.close(),
+            Record::LengthOfDay { minutes } => file.length_of_day(*minutes),
             Record::Other { tag, body } => file.record(*tag, body),
         };
         file.bytes

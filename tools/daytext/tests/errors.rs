@@ -16,14 +16,15 @@ fn check(line: &str, expected: &str) {
 fn first_words() {
     check(
         "qoute 200100 200300",
-        "\"qoute\" begins no line; expected size, quote, trade, minute, halt, \
-         resume, fix, close, record or bytes",
+        "\"qoute\" begins no line; expected size, length, quote, trade, minute, \
+         halt, resume, fix, close, record or bytes",
     );
 }
 
 /// What a value of each field is expected to be.
 const BYTE: &str = "expected a number from 0 to 255";
 const KIND: &str = "expected a number from 0 to 255, or simple, spread or block";
+const MINUTES: &str = "expected a number from 0 to 65535";
 const NUMBER: &str = "expected a number from 0 to 4294967295";
 const NUMBER_OR_NONE: &str = "expected a number from 0 to 4294967295, or - for none";
 const COUNT: &str = "expected a number from 1 to 1000000";
@@ -32,6 +33,7 @@ const HEXADECIMAL: &str = "expected two hexadecimal digits for each";
 #[test]
 fn missing_values() {
     for (line, name, expected) in [
+        ("length", "length of day", MINUTES),
         ("quote", "bid", NUMBER_OR_NONE),
         ("quote 200100", "offer", NUMBER_OR_NONE),
         ("minute", "index", NUMBER_OR_NONE),
@@ -55,6 +57,8 @@ fn missing_values() {
 #[test]
 fn wrong_numbers() {
     for (line, found, expected) in [
+        ("length 65536", "length of day is \"65536\"", MINUTES),
+        ("length -", "length of day is \"-\"", MINUTES),
         ("quote 200100 x", "offer is \"x\"", NUMBER_OR_NONE),
         ("quote 2001,00 0", "bid is \"2001,00\"", NUMBER_OR_NONE),
         (
@@ -97,6 +101,10 @@ fn wrong_words() {
 
 #[test]
 fn words_too_much() {
+    check(
+        "length 1140 1320",
+        "\"1320\" is too much; expected the end of the line, or times and a number",
+    );
     check(
         "halt now",
         "\"now\" is too much; expected the end of the line, or times and a number",

@@ -19,6 +19,10 @@ fn calls() {
     check("fix -", &[6, 0, 4, 0, 0, 0, 0]);
     check("fix 200150", &[6, 0, 4, 0, 3, 13, 214]);
     check("close", &[7, 0, 0]);
+    check("length 1140", &[8, 0, 2, 4, 116]);
+    check("length 1,320", &[8, 0, 2, 5, 40]);
+    check("length 0", &[8, 0, 2, 0, 0]);
+    check("length 65535", &[8, 0, 2, 255, 255]);
 }
 
 #[test]
@@ -41,6 +45,7 @@ fn damaged_records() {
     check("record 9", &[9, 0, 0]);
     check("record 3 01 02FF", &[3, 0, 3, 1, 2, 255]);
     check("record 255 00 times 2", &[255, 0, 1, 0, 255, 0, 1, 0]);
+    check("record 8 04", &[8, 0, 1, 4]);
     check("bytes 02 00", &[2, 0]);
 }
 
@@ -69,6 +74,21 @@ fn sizes() {
     assert_eq!(daytext::encode("size 0"), Ok(vec![0]));
     assert_eq!(daytext::decode(&[]), "size missing\n");
     assert_eq!(daytext::decode(&[255]), "size 255\n");
+}
+
+#[test]
+fn lengths_of_day_whole_and_damaged() {
+    let bytes = [
+        1, 8, 0, 2, 4, 116, 8, 0, 2, 255, 255, 8, 0, 1, 4, 8, 0, 2, 4,
+    ];
+    let expected = "\
+size 1
+length 1140                              # record 1
+length 65535                             # record 2
+record 8 04                              # record 3
+bytes 08 00 02 04                        # record 4
+";
+    assert_eq!(daytext::decode(&bytes), expected);
 }
 
 #[test]

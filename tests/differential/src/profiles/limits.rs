@@ -1,6 +1,6 @@
 //! Limits met exactly and passed by one.
 
-use crate::generator::{Generator, MINUTES};
+use crate::generator::Generator;
 use dayformat::kind::{BLOCK, SIMPLE, SPREAD};
 
 const LARGEST: u32 = 100_000;
@@ -8,6 +8,7 @@ const LARGEST: u32 = 100_000;
 /// Positions and volumes filled to their limits, over one or two days.
 pub fn positions_and_volumes(generator: &mut Generator) {
     for _ in 0..generator.random.between(1, 3) {
+        let length = generator.start_date();
         for _ in 0..generator.random.between(1, 3) {
             match generator.random.below(4) {
                 0 => fill_position(generator),
@@ -16,7 +17,7 @@ pub fn positions_and_volumes(generator: &mut Generator) {
                 _ => pass_both(generator),
             }
         }
-        generator.quiet_minutes(MINUTES);
+        generator.quiet_minutes(length);
         generator.fix_and_close();
     }
 }
@@ -89,6 +90,7 @@ fn pass_both(generator: &mut Generator) {
 
 /// Values at and beyond the ends of their fields.
 pub fn fields(generator: &mut Generator) {
+    let length = generator.start_date();
     for _ in 0..generator.random.between(5, 60) {
         any_field(generator);
         if generator.random.chance(3) {
@@ -99,14 +101,14 @@ pub fn fields(generator: &mut Generator) {
         }
     }
     if generator.random.chance(60) {
-        generator.quiet_minutes(MINUTES);
+        generator.quiet_minutes(length);
         any_field(generator);
         generator.fix_and_close();
     }
 }
 
 fn any_field(generator: &mut Generator) {
-    match generator.random.below(6) {
+    match generator.random.below(7) {
         0 | 1 => {
             let accounts = generator.two_accounts();
             let kind = generator
@@ -136,6 +138,7 @@ fn any_field(generator: &mut Generator) {
             let index = edge_price(generator);
             generator.file.minute_ends(1, index);
         }
+        5 => generator.any_length_of_day(),
         _ => {
             let set_price = edge_price(generator);
             generator.file.fix(set_price);

@@ -1,14 +1,16 @@
 //! Markets, valid minutes, rates and amounts.
 
-use crate::generator::{Generator, MINUTES};
+use crate::generator::Generator;
 use dayformat::kind::{BLOCK, SIMPLE, SPREAD};
+use reference::terms::FULL_DAY;
 
 /// One or two days with everything in them.
 pub fn busy_days(generator: &mut Generator) {
     for _ in 0..generator.random.between(1, 2) {
+        let length = generator.start_date();
         generator.file.resume();
         let busy = generator.random.between(5, 600) as usize;
-        generator.minutes(MINUTES - 1, busy, Generator::busy_minute);
+        generator.minutes(length - 1, busy, Generator::busy_minute);
         generator.busy_minute();
         generator.quiet_minutes(1);
         generator.fix_and_close();
@@ -18,8 +20,9 @@ pub fn busy_days(generator: &mut Generator) {
 /// Days with few valid minutes, so that each basis and the rate's tie show.
 pub fn few_valid_minutes(generator: &mut Generator) {
     for _ in 0..generator.random.between(2, 5) {
+        let length = generator.start_date();
         let valid = generator.random.between(1, 12) as usize;
-        generator.minutes(MINUTES - 1, valid, one_valid_minute);
+        generator.minutes(length - 1, valid, one_valid_minute);
         generator.quiet_minutes(1);
         generator.fix_and_close();
     }
@@ -46,9 +49,11 @@ fn one_valid_minute(generator: &mut Generator) -> usize {
 /// Days whose amount is a half penny, on both sides of zero.
 pub fn half_pennies(generator: &mut Generator) {
     const INDEX: u32 = 1_000_000;
-    let mut minutes_left = 7 * MINUTES - 200;
-    while minutes_left > MINUTES {
-        minutes_left -= MINUTES;
+    let full = usize::from(FULL_DAY);
+    let mut minutes_left = 7 * full - 200;
+    while minutes_left > full {
+        let length = generator.start_date();
+        minutes_left -= length;
         // Rate × price × size is an odd multiple of 5 × 10^10.
         let (thousandths, unit) = generator.random.pick(&[
             (5_000, 25_000),
@@ -63,7 +68,7 @@ pub fn half_pennies(generator: &mut Generator) {
         };
         disturbed_start(generator, INDEX);
         generator.file.quote(futures - 10, futures + 10);
-        generator.file.minute_ends(MINUTES - 2, INDEX);
+        generator.file.minute_ends(length - 2, INDEX);
         let odd = 2 * generator.random.below(20) + 1;
         let price = (odd * unit / u32::from(generator.size)).max(5_000);
         half_penny_fix(generator, price);
@@ -96,8 +101,9 @@ fn half_penny_fix(generator: &mut Generator, price: u32) {
 /// Spreads at 0.005 and a tick beyond, with the last trade at, within and outside them.
 pub fn spread_edges(generator: &mut Generator) {
     for _ in 0..generator.random.between(1, 4) {
+        let length = generator.start_date();
         let busy = generator.random.between(1, 8) as usize;
-        generator.minutes(MINUTES - 1, busy, spread_edge);
+        generator.minutes(length - 1, busy, spread_edge);
         generator.quiet_minutes(1);
         generator.fix_and_close();
     }
@@ -128,8 +134,9 @@ fn spread_edge(generator: &mut Generator) -> usize {
 /// One-sided markets, halts and resumes within and across minutes.
 pub fn market_changes(generator: &mut Generator) {
     for _ in 0..generator.random.between(1, 4) {
+        let length = generator.start_date();
         let busy = generator.random.between(1, 25) as usize;
-        generator.minutes(MINUTES - 1, busy, market_change);
+        generator.minutes(length - 1, busy, market_change);
         generator.quiet_minutes(1);
         generator.fix_and_close();
         if generator.random.chance(30) {

@@ -1,13 +1,14 @@
 //! Settlement prices, positions and cash over days.
 
-use crate::generator::{Generator, MINUTES};
+use crate::generator::Generator;
 use dayformat::kind::SIMPLE;
 
 /// Trades of each kind before, in and after the last minute.
 pub fn last_minute(generator: &mut Generator) {
     for _ in 0..generator.random.between(1, 5) {
+        let length = generator.start_date();
         generator.tight_quote();
-        generator.quiet_minutes(MINUTES - 2);
+        generator.quiet_minutes(length - 2);
         some_trades(generator);
         generator.quiet_minutes(1);
         match generator.random.chance(50) {
@@ -45,10 +46,11 @@ fn tied_trades(generator: &mut Generator) {
 /// Quiet days that settle by the index, or can't until a set price comes.
 pub fn index_days(generator: &mut Generator) {
     for _ in 0..generator.random.between(2, 6) {
+        let length = generator.start_date();
         if generator.random.chance(40) {
             generator.any_trade();
         }
-        generator.quiet_minutes(MINUTES - 1);
+        generator.quiet_minutes(length - 1);
         let index = last_index(generator);
         generator.file.minute_ends(1, index).fix(0);
         if generator.random.chance(60) {
@@ -75,6 +77,7 @@ fn last_index(generator: &mut Generator) -> u32 {
 /// As many days as fit, with positions carried through them.
 pub fn many_days(generator: &mut Generator) {
     for _ in 0..7 {
+        let length = generator.start_date();
         if generator.random.chance(70) {
             generator.tight_quote();
         }
@@ -82,7 +85,7 @@ pub fn many_days(generator: &mut Generator) {
             generator.any_trade();
         }
         let busy = generator.random.below(3) as usize;
-        generator.minutes(MINUTES, busy, new_market);
+        generator.minutes(length, busy, new_market);
         generator.fix_and_close();
     }
 }
@@ -96,6 +99,7 @@ fn new_market(generator: &mut Generator) -> usize {
 pub fn round_trips(generator: &mut Generator) {
     let price = generator.near_ticked_price();
     for _ in 0..generator.random.between(1, 5) {
+        let length = generator.start_date();
         let (first, second) = generator.two_accounts();
         let quantity = generator.random.between(1, 9);
         generator
@@ -115,7 +119,7 @@ pub fn round_trips(generator: &mut Generator) {
         if generator.random.chance(30) {
             generator.tight_quote();
         }
-        generator.quiet_minutes(MINUTES);
+        generator.quiet_minutes(length);
         generator.file.fix(price).close();
     }
 }
@@ -123,8 +127,14 @@ pub fn round_trips(generator: &mut Generator) {
 /// Halts that outlast the day, and what comes on the next one.
 pub fn carried_halts(generator: &mut Generator) {
     for _ in 0..generator.random.between(2, 5) {
+        let length = generator.start_date();
+        if generator.random.chance(60) {
+            generator.any_trade();
+            generator.any_quote();
+            generator.file.resume();
+        }
         generator.tight_quote();
-        generator.quiet_minutes(MINUTES);
+        generator.quiet_minutes(length);
         let set_price = generator.near_price();
         let halt_first = generator.random.chance(50);
         if halt_first {
@@ -135,10 +145,5 @@ pub fn carried_halts(generator: &mut Generator) {
             generator.file.halt();
         }
         generator.file.close();
-        if generator.random.chance(60) {
-            generator.any_trade();
-            generator.any_quote();
-            generator.file.resume();
-        }
     }
 }

@@ -37,7 +37,7 @@ const fn moved(mut order: Order, check: Check, before: Check) -> Order {
 pub struct PositionBeforeVolume;
 
 impl RefusalRules for PositionBeforeVolume {
-    fn checking_order(&self) -> &'static [Check] {
+    fn checking_order(&self, _call: Call) -> &'static [Check] {
         const BUYER: Order = moved(CHECKING_ORDER, Check::BuyerPosition, Check::BuyerVolume);
         const BOTH: Order = moved(BUYER, Check::SellerPosition, Check::BuyerVolume);
         &BOTH
@@ -47,7 +47,7 @@ impl RefusalRules for PositionBeforeVolume {
 pub struct BuyerBeforeSeller;
 
 impl RefusalRules for BuyerBeforeSeller {
-    fn checking_order(&self) -> &'static [Check] {
+    fn checking_order(&self, _call: Call) -> &'static [Check] {
         const ORDER: Order = moved(CHECKING_ORDER, Check::BuyerPosition, Check::SellerVolume);
         &ORDER
     }
@@ -56,7 +56,7 @@ impl RefusalRules for BuyerBeforeSeller {
 pub struct FieldBeforeHalt;
 
 impl RefusalRules for FieldBeforeHalt {
-    fn checking_order(&self) -> &'static [Check] {
+    fn checking_order(&self, _call: Call) -> &'static [Check] {
         const ORDER: Order = moved(CHECKING_ORDER, Check::Field, Check::Halt);
         &ORDER
     }
@@ -65,7 +65,7 @@ impl RefusalRules for FieldBeforeHalt {
 pub struct FieldBeforeDay;
 
 impl RefusalRules for FieldBeforeDay {
-    fn checking_order(&self) -> &'static [Check] {
+    fn checking_order(&self, _call: Call) -> &'static [Check] {
         const ORDER: Order = moved(CHECKING_ORDER, Check::Field, Check::Day);
         &ORDER
     }
@@ -74,7 +74,7 @@ impl RefusalRules for FieldBeforeDay {
 pub struct CrossedBeforeField;
 
 impl RefusalRules for CrossedBeforeField {
-    fn checking_order(&self) -> &'static [Check] {
+    fn checking_order(&self, _call: Call) -> &'static [Check] {
         const ORDER: Order = moved(CHECKING_ORDER, Check::Crossed, Check::Field);
         &ORDER
     }

@@ -25,17 +25,21 @@ impl CallRules for SpreadTradesInSettlement {
 pub struct LateTradesInSettlement;
 
 impl CallRules for LateTradesInSettlement {
-    fn settlement_calls<'a>(&self, day: &'a Day) -> &'a [Call] {
-        let start = day.place_after_minute(self.day_length(day) - 1);
-        &day.calls[start..day.fix.unwrap_or(day.calls.len())]
+    fn settlement_calls<'a>(&self, days: &'a [Day]) -> &'a [Call] {
+        let length = self.day_length(days);
+        days.last().map_or(&[], |day| {
+            let start = day.place_after_minute(length - 1);
+            &day.calls[start..day.fix.unwrap_or(day.calls.len())]
+        })
     }
 }
 
 pub struct IndexOfMinuteBefore;
 
 impl CallRules for IndexOfMinuteBefore {
-    fn index(&self, day: &Day) -> i128 {
-        day.index(self.day_length(day) - 1).into()
+    fn index(&self, days: &[Day]) -> i128 {
+        let length = self.day_length(days);
+        days.last().map_or(0, |day| day.index(length - 1).into())
     }
 }
 
@@ -43,7 +47,8 @@ pub struct OlderIndexKept;
 
 impl CallRules for OlderIndexKept {
     fn previous_index(&self, earlier: &[Day]) -> i128 {
-        let mut indexes = earlier.iter().rev().map(|day| self.index(day));
+        let counts = (1..=earlier.len()).rev();
+        let mut indexes = counts.map(|count| self.index(&earlier[..count]));
         indexes.find(|index| *index != 0).unwrap_or(0)
     }
 }
