@@ -5,8 +5,10 @@ use differential::wrong::{WrongLedger, ALL};
 use reference::{bench, bench_under, library_printout, library_printout_under};
 
 const FILES: u64 = 1_000;
+/// A ledger that every second file has told apart so often is played no further.
+const ENOUGH: u64 = 5;
 
-/// How often a wrong ledger was told apart, and at which seed first.
+/// How often a wrong ledger was told apart, up to enough, and at which seed first.
 #[derive(Clone, Copy, Default)]
 struct Bites {
     files: u64,
@@ -25,7 +27,7 @@ fn bites(from: u64) -> Vec<Bites> {
         let input = input(seed);
         let (bench, library) = (bench(&input), library_printout(&input));
         for (wrong, bites) in ALL.iter().zip(&mut bites) {
-            if differs(wrong, &input, &bench, &library) {
+            if bites.files < ENOUGH && differs(wrong, &input, &bench, &library) {
                 bites.files += 1;
                 bites.first.get_or_insert(seed);
             }
