@@ -1,9 +1,10 @@
 -- What a day within its limits holds, as facts that `omega` reads, and back: a day that holds no more is within its limits.
 --     held-day, day-holds         likewise for a final minute
+--     empty-day                   a new day
 --     day-most                    its minutes
 --     held-market                 a market's sides
 -- Assumes nothing.
-use mathlib.Core.Path.{_≡_}
+use mathlib.Core.Path.{_≡_, refl}
 use mathlib.Core.Bool.{true, _&&_, _||_}
 use mathlib.Core.List.{[], _∷_}
 use Prim.Native.Nat.{ℕ, _*_, _≤_}
@@ -21,7 +22,7 @@ use Rattle.calls.specs.Market.{twoSided, uncrossed, marketHolds, minuteMarketHo
 use Rattle.calls.specs.Length.{isLength}
 use Rattle.calls.proofs.Length.{length-most}
 use Rattle.day.specs.declared.Day.{Day}
-use Rattle.day.specs.Day.{dayLength}
+use Rattle.day.specs.Day.{dayLength, emptyDay}
 use Rattle.day.specs.Limits.{minutesHold, marketsHold, mostAmount, pricesHold, fixHolds, startHolds, finalHolds, dayHolds}
 
 -- ---- what is held
@@ -91,6 +92,10 @@ pub final-holds : (m : FinalMinute) (volume : ℕ) → HeldFinal m volume → fi
 final-holds m volume h = le-leb _ _ (h .contracts) and le-leb _ _ (h .low) and le-leb _ _ (h .high)
 
 -- ---- what follows
+
+pub empty-day : HeldDay emptyDay
+unfolding dayHolds
+empty-day = held-day emptyDay refl
 
 pub day-most : (d : Day) → HeldDay d → dayLength d ≤ mostMinutes
 day-most d h = length-most (dayLength d) (h .length)

@@ -1,17 +1,9 @@
-// One trade date of a contract by its parts: what quotes, minute ends, trades and a fix leave of it.
+// One trade date of a contract by its parts: a new one, its limits, and what it forbids.
 ghost use mathlib.Core.Path.{_≡_};
-ghost use mathlib.Core.Bool.{cond};
-ghost use Prim.Native.Nat.{_+_, _≤_};
-ghost use Rattle.funding.specs.Minute.{mostMinutes};
 ghost use Rattle.day.specs.Day.{dayLength, noMarkets, emptyDay, inLastMinute, forbidsMinuteEnd, forbidsFix};
 ghost use Rattle.day.specs.Limits.{marketsHold, minutesHold, finalHolds, dayHolds};
-ghost use Rattle.day.specs.Effects.{withMarkets, withMinutes, withTrades, withFixed, weightedAfter, minuteEnded, nextMinute};
-ghost use Rattle.day.specs.Effects.{quoted as Effects·quoted};
-ghost use Rattle.day.specs.Effects.{traded as Effects·traded};
-ghost use Rattle.day.specs.Inner.{RoomForTrade, Endable};
 use calls::FULL_DAY;
 use calls::Market;
-use calls::Trade;
 use calls::is_length;
 use funding::FinalMinute;
 use funding::LARGEST_PRICE;
@@ -70,7 +62,7 @@ pub struct Day {
 }
 
 impl Markets {
-    pub(crate) fn none() -> Self
+    pub fn none() -> Self
         ensures { λ r. ⌜ r ≡ noMarkets ⌝ }
     {
         Self {
@@ -84,23 +76,6 @@ impl Markets {
         ensures { λ r. ⌜ r ≡ marketsHold self ⌝ }
     {
         self.standing.holds() & self.minute.holds_minute()
-    }
-
-    pub(crate) fn quoted(self, market: Market) -> Markets
-        ensures { λ r. ⌜ r ≡ Effects·quoted self market ⌝ }
-    {
-        Markets {
-            standing: market,
-            minute: market.as_minute(self.minute),
-        }
-    }
-
-    pub(crate) fn next_minute(self) -> Markets
-        ensures { λ r. ⌜ r ≡ nextMinute self ⌝ }
-    {
-        let mut after = self;
-        after.minute = self.standing.as_minute(Market { bid: 0, offer: 0 });
-        after
     }
 }
 
@@ -145,7 +120,7 @@ impl Day {
         }
     }
 
-    fn is_in_last_minute(self) -> bool
+    pub fn is_in_last_minute(self) -> bool
         ensures { λ r. ⌜ r ≡ inLastMinute (dayLength self) (self .minutes .ended) ⌝ }
     {
         self.minutes.ended as u64 + 1 == self.session.length as u64
@@ -188,99 +163,5 @@ impl Day {
         ensures { λ r. ⌜ r ≡ forbidsFix self ⌝ }
     {
         (self.minutes.ended < self.session.length) | (self.fixed.price != 0)
-    }
-
-    pub fn quoted(mut self, market: Market) -> Day
-        ensures { λ r. ⌜ r ≡ withMarkets self (Effects·quoted (self .markets) market) ⌝ }
-    {
-        self.markets = self.markets.quoted(market);
-        self
-    }
-
-    pub fn without_markets(mut self) -> Day
-        ensures { λ r. ⌜ r ≡ withMarkets self noMarkets ⌝ }
-    {
-        self.markets = Markets::none();
-        self
-    }
-
-    // Room for the trade in n and in the gross is required.
-    pub fn traded(self, t: Trade) -> Day
-        requires { ⌜ RoomForTrade (self .trades .settling) t ⌝ }
-        ensures { λ r. ⌜ r ≡ withTrades self (Effects·traded self t) ⌝ }
-    {
-        let mut after = self;
-        if self.is_in_last_minute() & (t.kind == Trade::SIMPLE) {
-            let trades = Trades {
-                last: t.price,
-                settling: FinalMinute {
-                    contracts: self.trades.settling.contracts + t.quantity,
-                    gross: self.trades.settling.gross + t.quantity as u64 * t.price as u64,
-                },
-            };
-            after.trades = trades;
-            return after;
-        }
-        after.trades.last = t.price;
-        after
-    }
-
-    // The weighted sum after a minute, valid or not.
-    fn weighted_after(self, valid: bool, index: u32) -> i64
-        requires { ⌜ Endable self valid index ⌝ }
-        ensures { λ r. ⌜ r ≡ weightedAfter self valid index ⌝ }
-    {
-        if valid {
-            let minute = self.markets.minute;
-            let futures = funding::futures_price(minute.bid, minute.offer, self.trades.last);
-            let basis = funding::basis(futures, index);
-            funding::accrue(self.minutes.weighted, self.minutes.valid, basis)
-        } else {
-            self.minutes.weighted
-        }
-    }
-
-    fn valid_after(self, valid: bool) -> u32
-        requires { ⌜ self .minutes .valid ≤ mostMinutes ⌝ }
-        ensures { λ r. ⌜ r ≡ cond valid (self .minutes .valid + 1) (self .minutes .valid) ⌝ }
-    {
-        if valid {
-            self.minutes.valid + 1
-        } else {
-            self.minutes.valid
-        }
-    }
-
-    fn index_after(self, index: u32) -> u32
-        ensures { λ r. ⌜ r ≡ cond (inLastMinute (dayLength self) (self .minutes .ended)) index (self .minutes .index) ⌝ }
-    {
-        if self.is_in_last_minute() {
-            index
-        } else {
-            self.minutes.index
-        }
-    }
-
-    pub fn minute_ended(mut self, valid: bool, index: u32) -> Day
-        requires { ⌜ Endable self valid index ⌝ }
-        ensures { λ r. ⌜ r ≡ withMinutes (withMarkets self (nextMinute (self .markets))) (minuteEnded self valid index) ⌝ }
-    {
-        let markets = self.markets.next_minute();
-        let mut minutes = self.minutes;
-        minutes.index = self.index_after(index);
-        minutes.weighted = self.weighted_after(valid, index);
-        minutes.valid = self.valid_after(valid);
-        minutes.ended = self.minutes.ended + 1;
-        self.markets = markets;
-        self.minutes = minutes;
-        self
-    }
-
-    pub fn fixed(mut self, price: u32, amount: i64) -> Day
-        ensures { λ r. ⌜ r ≡ withFixed self (record { price = price; amount = amount }) ⌝ }
-    {
-        let fixed = Fixed { price, amount };
-        self.fixed = fixed;
-        self
     }
 }

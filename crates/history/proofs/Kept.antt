@@ -19,7 +19,7 @@ use Rattle.calls.specs.declared.Trade.{Trade}
 use Rattle.calls.specs.declared.Call.{Call}
 use Rattle.calls.proofs.Calls.{TradeOr, CloseOr, trade, close, trade-or, close-or}
 use Rattle.day.specs.Day.{isFinal, minuteOf}
-use Rattle.day.specs.Effects.{traded, minuteEnded}
+use Rattle.day_effects.specs.Effects.{traded, minuteEnded}
 use Rattle.outcomes.specs.Effects.{figuresAfter}
 use Rattle.calls.proofs.Calls as calls
 use Rattle.closing.specs.Closing.{posting, posted}

@@ -10,8 +10,7 @@ use Rattle.integers.proofs.Order.{abs-add}
 use Rattle.day.specs.Day.{noTrades}
 use Rattle.figures.specs.Figures.{isSize}
 use Rattle.outcomes.specs.Effects.{closedFigures}
-use Rattle.day.proofs.Held.{HeldFinal}
-use Rattle.day.proofs.Keeping.{empty-day}
+use Rattle.day.proofs.Held.{HeldFinal, empty-day}
 use Rattle.columns.specs.Columns.{entry, countAt}
 use Rattle.columns.specs.Limits.{mostPosting}
 use Rattle.closing.specs.Closing.{posting, posted}

@@ -18,7 +18,7 @@ use Rattle.calls.specs.declared.Trade.{Trade}
 use Rattle.day.specs.Day.{dayLength, isFinal, withTrade}
 use Rattle.outcomes.specs.Effects.{figuresAfter}
 use Rattle.day.proofs.Held.{HeldFinal}
-use Rattle.day.proofs.Keeping.{TradeFields, trade-fields}
+use Rattle.day_effects.proofs.Keeping.{TradeFields, trade-fields}
 use Rattle.columns.specs.Columns.{entry, countAt, raise, raiseCount, sumBelow}
 use Rattle.columns.specs.Limits.{mostPosition, mostVolume}
 use Rattle.columns.proofs.Columns.{sum-raised}

@@ -26,17 +26,17 @@ use Rattle.calls.specs.Market.{noMarket, asMinute, uncrossed, marketHolds, minu
 use Rattle.calls.specs.Length.{isLength}
 use Rattle.day.specs.Day.{dayLength, isFixed}
 use Rattle.figures.specs.Figures.{termsOn, tieOn, tenth}
-use Rattle.day.specs.Effects.{withMarkets, quoted, withFixed, begun}
+use Rattle.day_effects.specs.Effects.{withMarkets, quoted, withFixed, begun}
 use Rattle.outcomes.specs.Effects.{fixedAt, figuresAfter}
 use Rattle.figures.specs.Fixing.{fixPrice, fixRate, fixAmount}
 use Rattle.day.specs.Limits.{mostAmount, marketsHold}
 use Rattle.refusals.specs.Refusals.{noAccounts, Accounts}
 use Rattle.outcomes.specs.Outcome.{FiguresKept}
-use Rattle.day.proofs.Held.{HeldDay, HeldFinal, held-final}
+use Rattle.day.proofs.Held.{HeldDay, HeldFinal, held-final, empty-day}
 use Rattle.figures.proofs.Rates.{rate-size}
 use Rattle.figures.proofs.Held.{HeldFigures, held-figures, figures-hold, size-most}
 use Rattle.outcomes.proofs.Passed.{PassedFigures, passed-figures}
-use Rattle.day.proofs.Keeping.{as-minute, empty-day, markets-hold, minute-ended, trade-fields, with-length}
+use Rattle.day_effects.proofs.Keeping.{as-minute, markets-hold, minute-ended, trade-fields, with-length}
 
 -- ---- a fix
 

@@ -1,7 +1,8 @@
 -- What an accepted call does to the figures: document 01, "A trade date, call by call".
 use mathlib.Core.Bool.{Bool, true, false}
 use Prim.Native.Nat.{ℕ, _+_}
-use Rattle.day.specs.{declared.Fixed.Fixed, declared.Day.Day, Day.noMarkets, Day.emptyDay, Effects.withMarkets, Effects.withMinutes, Effects.withTrades, Effects.withFixed, Effects.quoted, Effects.traded, Effects.minuteEnded, Effects.nextMinute, Effects.begun, Effects.withLength}
+use Rattle.day.specs.{declared.Fixed.Fixed, declared.Day.Day, Day.noMarkets, Day.emptyDay}
+use Rattle.day_effects.specs.Effects.{withMarkets, withMinutes, withTrades, withFixed, quoted, traded, minuteEnded, nextMinute, begun, withLength}
 use Rattle.figures.specs.{declared.Figures.Figures, declared.Fixing.Fixing, Figures.termsOn, Figures.noFixing, Fixing.fixPrice, Fixing.fixAmount, Fixing.fixingAt}
 use Rattle.calls.specs.declared.Call.the-variants as call
 use Rattle.calls.specs.{declared.Call.Call, Calls.onFix, Market.isValid}

@@ -3,8 +3,8 @@ ghost use mathlib.Core.Path.{_≡_};
 ghost use mathlib.Core.Bool.{true};
 ghost use Prim.Native.Nat.{_≤_};
 ghost use Rattle.refusals.specs.Refusals.{mostDays};
-ghost use Rattle.day.specs.Effects.{begun};
-ghost use Rattle.day.specs.Inner.{RoomForTrade};
+ghost use Rattle.day_effects.specs.Effects.{begun};
+ghost use Rattle.day_effects.specs.Inner.{RoomForTrade};
 ghost use Rattle.figures.specs.Figures.{numbered, figuresHold};
 ghost use Rattle.figures.specs.Fixing.{Fixable};
 ghost use Rattle.outcomes.specs.Effects.{withDay, figuresAfter};
@@ -39,7 +39,7 @@ pub fn quote(figures: Figures, market: Market) -> Outcome
     if code != 0 {
         return Outcome::numbered(figures, code);
     }
-    changed(figures, figures.day.quoted(market))
+    changed(figures, day_effects::quoted(figures.day, market))
 }
 
 // An accepted trade. Room for it in n and in the gross is required.
@@ -47,7 +47,7 @@ pub fn traded(figures: Figures, t: Trade) -> Outcome
     requires { ⌜ RoomForTrade (figures .day .trades .settling) t ⌝ }
     ensures { λ r. ⌜ r ≡ numbered (figuresAfter figures (Call.Trade t)) 0 ⌝ }
 {
-    changed(figures, figures.day.traded(t))
+    changed(figures, day_effects::traded(figures.day, t))
 }
 
 pub fn halt(figures: Figures) -> Outcome
@@ -59,7 +59,7 @@ pub fn halt(figures: Figures) -> Outcome
     }
     let mut after = figures;
     after.halted = true;
-    changed(after, figures.day.without_markets())
+    changed(after, day_effects::without_markets(figures.day))
 }
 
 pub fn resume(figures: Figures) -> Outcome
@@ -100,7 +100,10 @@ pub fn minute_end(figures: Figures, index: u32) -> Outcome
         .markets
         .minute
         .is_valid(figures.halted, index, figures.terms());
-    changed(figures, figures.day.minute_ended(valid, index))
+    changed(
+        figures,
+        day_effects::minute_ended(figures.day, valid, index),
+    )
 }
 
 pub fn fix(figures: Figures, set: u32) -> Outcome
@@ -113,7 +116,7 @@ pub fn fix(figures: Figures, set: u32) -> Outcome
         return Outcome::numbered(figures, code);
     }
     let mut after = figures;
-    after.day = figures.day.fixed(fixing.price, fixing.amount);
+    after.day = day_effects::fixed(figures.day, fixing.price, fixing.amount);
     Outcome {
         figures: after,
         fixing,

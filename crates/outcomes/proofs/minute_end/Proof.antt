@@ -22,7 +22,7 @@ use Rattle.outcomes.proofs.Outcomes.{refused-is, accepted-is}
 use Rattle.figures.proofs.Held.{held-figures}
 use Rattle.outcomes.proofs.Passed.{passed-figures}
 use Rattle.day.proofs.Held.{day-most}
-use Rattle.day.proofs.Keeping.{accrues}
+use Rattle.day_effects.proofs.Keeping.{accrues}
 use Rattle.outcomes.proofs.minute_end.Statement.{statement}
 use Rattle.outcomes.proofs.minute_end.Tie as tie
 

@@ -10,7 +10,7 @@ use Rattle.calls.specs.Trade.{mostQuantity}
 use Rattle.outcomes.specs.Effects.{fixingOf}
 use Rattle.outcomes.proofs.Passed.{passed-figures}
 use Rattle.outcomes.proofs.Outcomes.{refused-is, accepted-is}
-use Rattle.day.proofs.Keeping.{TradeFields, trade-fields}
+use Rattle.day_effects.proofs.Keeping.{TradeFields, trade-fields}
 use Rattle.columns.specs.Columns.{accounts}
 use Rattle.trading.specs.Trading.{accountsOf}
 use Rattle.trading.proofs.trade_on.Statement.{statement}

@@ -1,10 +1,10 @@
--- What quotes, trades, minute ends and a fix do to the day: document 01, "A trade date, call by call".
+-- What quotes, trades, minute ends and a length do to the day: document 01, "A trade date, call by call".
 use mathlib.Core.Bool.{Bool, true, cond}
 use Prim.Native.Nat.{ℕ, _+_}
 use lib.IntN.{ℤ}
 use Rattle.funding.specs.Minute.{basisOf, accrued}
 use Rattle.calls.specs.{declared.Market.Market, declared.Trade.Trade, Market.noMarket, Market.asMinute}
 use Rattle.day.specs.{declared.Minutes.Minutes, declared.Markets.Markets, declared.Trades.Trades, declared.Fixed.Fixed, declared.Session.Session, declared.Day.Day, Day.dayLength, Day.inLastMinute, Day.isFinal, Day.withTrade, Day.minuteOf}
 
 -- ---- a part of a day, changed
 

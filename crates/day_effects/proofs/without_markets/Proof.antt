@@ -1,7 +1,7 @@
--- `day::Day::without_markets` meets its contract. Assumes nothing.
+-- `day_effects::without_markets` meets its contract. Assumes nothing.
 use borrow.Author.Needs.{needs}
-use Rattle.day.proofs.Day.without_markets.Statement.{statement}
-use Rattle.day.proofs.Day.without_markets.Tie as tie
+use Rattle.day_effects.proofs.without_markets.Statement.{statement}
+use Rattle.day_effects.proofs.without_markets.Tie as tie
 
 none-requires : tie.Need-none-requires
 none-requires c κs = search needs

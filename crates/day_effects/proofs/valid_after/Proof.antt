@@ -1,13 +1,13 @@
--- `day::Day::valid_after` meets its contract. Assumes nothing.
+-- `day_effects::valid_after` meets its contract. Assumes nothing.
 use borrow.Author.Needs.{needs}
-use Rattle.day.proofs.Day.valid_after.Statement.{statement}
-use Rattle.day.proofs.Day.valid_after.Tie as tie
+use Rattle.day_effects.proofs.valid_after.Statement.{statement}
+use Rattle.day_effects.proofs.valid_after.Tie as tie
 
 add-result : tie.Need-add-result
 add-result c = search needs
 
 returns : tie.Need-returns
-returns c = rw (c .before .if1 .taken)
+returns c = rw (c .if1 .taken)
 
 returns-2 : tie.Need-returns-2
 returns-2 c = search needs

@@ -1,6 +1,5 @@
 -- What a call leaves of a day within its limits, by the parts of the day.
 --     markets-hold, as-minute     the markets
---     empty-day                   a new day
 --     with-length                 a length of day, before the date has begun
 --     trade-fields                what refusal 5 leaves of a trade's values
 --     accrues                     what the weighted sum of a valid minute requires
@@ -26,20 +25,16 @@ use Rattle.calls.specs.declared.Trade.{Trade}
 use Rattle.calls.specs.Market.{noMarket, twoSided, asMinute, isValid, marketHolds, minuteMarketHolds}
 use Rattle.calls.specs.Length.{fullDay, isLength}
 use Rattle.calls.specs.Trade.{simple, block, mostQuantity, leastBlock, tradeOutside}
 use Rattle.day.specs.declared.Day.{Day}
-use Rattle.day.specs.Day.{dayLength, emptyDay, isFixed, forbidsLength, inLastMinute, minuteOf}
-use Rattle.day.specs.Effects.{withMarkets, minuteEnded, withMinutes, nextMinute, begun, withLength}
-use Rattle.day.specs.Limits.{marketsHold, dayHolds}
-use Rattle.day.proofs.Held.{HeldDay, held-day, day-most, held-minute}
+use Rattle.day.specs.Day.{dayLength, isFixed, forbidsLength, inLastMinute, minuteOf}
+use Rattle.day_effects.specs.Effects.{withMarkets, minuteEnded, withMinutes, nextMinute, begun, withLength}
+use Rattle.day.specs.Limits.{marketsHold}
+use Rattle.day.proofs.Held.{HeldDay, day-most, held-minute}
 
 -- ---- the parts of a day
 
 pub markets-hold : (standing minute : Market) → marketHolds standing ≡ true → minuteMarketHolds minute ≡ true → marketsHold (record { standing = standing; minute = minute }) ≡ true
 markets-hold standing minute s m = s and m
-
-pub empty-day : HeldDay emptyDay
-unfolding dayHolds
-empty-day = held-day emptyDay refl
 
 pub as-minute : (m other : Market) → marketHolds m ≡ true → minuteMarketHolds other ≡ true → minuteMarketHolds (asMinute m other) ≡ true
 as-minute m other hm ho =

@@ -1,7 +1,7 @@
--- `day::Markets::next_minute` meets its contract. Assumes nothing.
+-- `day_effects::next_minute` meets its contract. Assumes nothing.
 use borrow.Author.Needs.{needs}
-use Rattle.day.proofs.Markets.next_minute.Statement.{statement}
-use Rattle.day.proofs.Markets.next_minute.Tie as tie
+use Rattle.day_effects.proofs.next_minute.Statement.{statement}
+use Rattle.day_effects.proofs.next_minute.Tie as tie
 
 as-minute-requires : tie.Need-as-minute-requires
 as-minute-requires c κs = search needs

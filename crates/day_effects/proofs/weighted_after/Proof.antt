@@ -1,21 +1,21 @@
--- `day::Day::weighted_after` meets its contract: a valid minute accrues, and another changes nothing. Assumes nothing.
+-- `day_effects::weighted_after` meets its contract: a valid minute accrues, and another changes nothing. Assumes nothing.
 use mathlib.Core.Path.{_≡_, _∙_, ap}
 use mir.Syntax.{w64}
 use mir.Val.{SFits, toZ, ofZ}
 use mir.Facts.{toZ-ofZ}
 use borrow.Author.Needs.{needs}
 use Rattle.funding.specs.Minute.{basisOf}
 use Rattle.day.specs.Day.{minuteOf}
-use Rattle.day.proofs.Day.weighted_after.Statement.{statement}
-use Rattle.day.proofs.Day.weighted_after.Tie as tie
+use Rattle.day_effects.proofs.weighted_after.Statement.{statement}
+use Rattle.day_effects.proofs.weighted_after.Tie as tie
 
-sum-back : (s : tie.Start) → toZ w64 (ofZ w64 (s .args .self .minutes .weighted)) ≡ s .args .self .minutes .weighted
-sum-back s = let f : SFits w64 (s .args .self .minutes .weighted) = search needs in toZ-ofZ f
+sum-back : (s : tie.Start) → toZ w64 (ofZ w64 (s .args .day .minutes .weighted)) ≡ s .args .day .minutes .weighted
+sum-back s = let f : SFits w64 (s .args .day .minutes .weighted) = search needs in toZ-ofZ f
 
 -- the basis that is handed on
 basis-is :
     (c : tie.After-basis) → let a = c .before .before .before .before .args in
-    toZ w64 (ofZ w64 (c .basis .result)) ≡ basisOf (minuteOf (a .self .markets .minute) (a .self .trades .last) (a .index) .F) (a .index)
+    toZ w64 (ofZ w64 (c .basis .result)) ≡ basisOf (minuteOf (a .day .markets .minute) (a .day .trades .last) (a .index) .F) (a .index)
 basis-is c =
     let a = c .before .before .before .before .args in
     toZ-ofZ (record { sfits = c .basis .ok }) ∙ c .basis .ensures ∙ ap (λ F. basisOf F (a .index)) (c .before .futures-price .ensures)

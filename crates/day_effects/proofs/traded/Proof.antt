@@ -1,16 +1,16 @@
--- `day::Day::traded` meets its contract: n and the gross have room. Assumes nothing.
+-- `day_effects::traded` meets its contract: n and the gross have room. Assumes nothing.
 use mathlib.Core.Path.{_≡_, sym, _∙_, ap}
 use mathlib.Core.Bool.{_&&_}
 use lib.Dec.{eqb}
 use borrow.Author.Needs.{needs}
 use Rattle.calls.specs.Trade.{simple}
 use Rattle.day.specs.Day.{dayLength, isFinal}
-use Rattle.day.proofs.Day.traded.Statement.{statement}
-use Rattle.day.proofs.Day.traded.Tie as tie
+use Rattle.day_effects.proofs.traded.Statement.{statement}
+use Rattle.day_effects.proofs.traded.Tie as tie
 
 -- whether the trade counts towards the settlement price
 final :
-    (c : tie.After-is-in-last-minute) {v : _} → let d = c .before .args .self in let t = c .before .args .t in
+    (c : tie.After-is-in-last-minute) {v : _} → let d = c .before .args .day in let t = c .before .args .t in
     (c .is-in-last-minute .result && eqb (t .kind) simple) ≡ v → isFinal (dayLength d) (d .minutes .ended) t ≡ v
 final c e = ap (λ x. x && eqb (c .before .args .t .kind) simple) (sym (c .is-in-last-minute .ensures)) ∙ e
 
