@@ -15,13 +15,13 @@ pub const MOST_AMOUNT: u64 = 10_000;
 
 // What minute ends set.
 pub struct Minutes {
-    // the u of the last minute
-    pub index: u32,
-    // weighted sum S, and valid count k
-    pub weighted: i64,
+    // valid count k, and weighted sum S
     pub valid: u32,
+    pub weighted: i64,
     // ended minutes
     pub ended: u32,
+    // the u of the last minute
+    pub index: u32,
 }
 
 // What quotes and halts set: the standing market and the minute's market.
@@ -54,11 +54,11 @@ pub struct Session {
 
 // The day's figures, which a close empties. A price, an index or a side is 0 where there is none.
 pub struct Day {
-    pub minutes: Minutes,
-    pub markets: Markets,
-    pub trades: Trades,
     pub fixed: Fixed,
+    pub trades: Trades,
+    pub markets: Markets,
     pub session: Session,
+    pub minutes: Minutes,
 }
 
 impl Markets {

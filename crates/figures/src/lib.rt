@@ -12,15 +12,15 @@ use refusals::MOST_DAYS;
 
 pub mod product;
 
-// All that a book holds beside its account columns. Here, in `Outcome` and in `day::Minutes` the order of the fields is the one
-// with which a run is fastest (`make speed`).
+// All that a book holds beside its account columns. Here, in `Outcome` and in the structs of `day` the order of the fields is the
+// one with which a run is fastest (`make speed`).
 pub struct Figures {
-    pub previous: Previous,
-    pub halted: bool,
-    // closed days
-    pub closed: u32,
     pub day: Day,
     pub size: u32,
+    // closed days
+    pub closed: u32,
+    pub halted: bool,
+    pub previous: Previous,
 }
 
 // What a fix prints; zeros for any other call.
