@@ -89,7 +89,7 @@ pub fn minute_end_code(closed: u32, forbidden: bool, index: u32) -> u8
     0
 }
 
-// Refusal 4 doesn't name a length of day: a halt that carried over leaves it.
+// Refusal 4 doesn't name a length of day, so that a halt doesn't stop it.
 pub fn length_code(closed: u32, forbidden: bool, minutes: u32) -> u8
     ensures { λ r. ⌜ r ≡ refusalBy closed forbidden false 0 (Call.DayLength minutes) ⌝ }
 {
