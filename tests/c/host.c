@@ -73,29 +73,40 @@ static void expect_account(int account, int64_t position, int64_t total_cash)
     EXPECT(cash[account], total_cash);
 }
 
-/* The day of document 01. */
+/* The calls of document 01's day, with so many minute ends before its first trade and after it. */
+static void add_example(struct file *day, int before, int after)
+{
+    add_quote(day, 200100, 200300);
+    add_minute_ends(day, before, 200000);
+    add_trade(day, 3, 7, 12, 200200);
+    add_minute_ends(day, after, 200000);
+    add_fix(day, 0);
+    add_trade(day, 7, 9, 5, 200100);
+    add_close(day);
+}
+
+/* Plays such a day: the records accepted, and document 01's positions and cash. */
+static void expect_day(struct file *day, uint64_t accepted)
+{
+    EXPECT(run(10, day), accepted);
+    expect_account(3, 12, -24000);
+    expect_account(7, -7, 19000);
+    expect_account(9, -5, 5000);
+    EXPECT(accounts_shown(), 3);
+    free(day->bytes);
+}
+
 static struct file example_day(void)
 {
     struct file day = {NULL, 0, 0};
-    add_quote(&day, 200100, 200300);
-    add_minute_ends(&day, 1319, 200000);
-    add_trade(&day, 3, 7, 12, 200200);
-    add_minute_ends(&day, 1, 200000);
-    add_fix(&day, 0);
-    add_trade(&day, 7, 9, 5, 200100);
-    add_close(&day);
+    add_example(&day, 1319, 1);
     return day;
 }
 
 static void the_example_of_document_01(void)
 {
     struct file day = example_day();
-    EXPECT(run(10, &day), 1325);
-    expect_account(3, 12, -24000);
-    expect_account(7, -7, 19000);
-    expect_account(9, -5, 5000);
-    EXPECT(accounts_shown(), 3);
-    free(day.bytes);
+    expect_day(&day, 1325);
 }
 
 /* The same day with 1,140 minutes. Refused are another length, a second one and a minute end. */
@@ -105,19 +116,8 @@ static void a_short_day(void)
     add_length(&day, 1141);
     add_length(&day, 1140);
     add_length(&day, 1320);
-    add_quote(&day, 200100, 200300);
-    add_minute_ends(&day, 1139, 200000);
-    add_trade(&day, 3, 7, 12, 200200);
-    add_minute_ends(&day, 2, 200000);
-    add_fix(&day, 0);
-    add_trade(&day, 7, 9, 5, 200100);
-    add_close(&day);
-    EXPECT(run(10, &day), 1146);
-    expect_account(3, 12, -24000);
-    expect_account(7, -7, 19000);
-    expect_account(9, -5, 5000);
-    EXPECT(accounts_shown(), 3);
-    free(day.bytes);
+    add_example(&day, 1139, 2);
+    expect_day(&day, 1146);
 }
 
 static void the_open_day_is_reported(void)
