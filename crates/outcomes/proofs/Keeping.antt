@@ -76,12 +76,6 @@ module _ (f : Figures) (a : Accounts) (h : HeldFigures f) where
   with-day : {x : Figures} → x .size ≡ f .size → x .closed ≡ f .closed → x .previous ≡ f .previous → HeldDay (x .day) → HeldFigures x
   with-day {x} size closed previous day = record { size = rw size (h .size); closed = rw closed (h .closed); price = rw previous (h .price); index = rw previous (h .index); day = day }
 
-  -- the same day, with which the date has begun
-  day-begun : HeldDay (begun d)
-  day-begun =
-      let x = h .day in
-      record { length = x .length; ended = x .ended; valid = x .valid; weighted = x .weighted; markets = x .markets; last = x .last; index = x .index; price = x .price; amount = x .amount; fix = x .fix; start = refl }
-
   with-markets : (m : _) → marketsHold m ≡ true → HeldDay (begun (withMarkets d m))
   with-markets m hm =
       let x = h .day in
@@ -128,7 +122,7 @@ module _ (f : Figures) (a : Accounts) (h : HeldFigures f) where
   held-after (call.Quote m) volume final p = quote-kept m p
   held-after (call.Trade t) volume final p = trade-kept t p
   held-after call.Halt volume final p = with-day refl refl refl (with-markets (record { standing = noMarket; minute = noMarket }) refl)
-  held-after call.Resume volume final p = with-day refl refl refl day-begun
+  held-after call.Resume volume final p = with-day refl refl refl (with-markets (d .markets) (h .day .markets))
   held-after (call.MinuteEnd u) volume final p = minute-end-kept u p
   held-after (call.Fix set) volume final p = fix-kept volume set final p
   held-after call.Close volume final p = close-kept p

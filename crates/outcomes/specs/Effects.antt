@@ -11,8 +11,8 @@ abbrev pub withDay : Figures → Bool → Day → Figures
 withDay f halted d = record { size = f .size; closed = f .closed; halted = halted; previous = f .previous; day = d }
 
 -- 02-1: with "a date's first accepted quote, trade, halt, resume or minute end", and with a length of day, the date has begun
-abbrev pub called : Figures → Bool → Day → Figures
-called f halted d = withDay f halted (begun d)
+abbrev pub withBegunDay : Figures → Bool → Day → Figures
+withBegunDay f halted d = withDay f halted (begun d)
 
 -- ---- a fix and a close
 
@@ -34,16 +34,16 @@ closedFigures f = record {
 
 -- 01: "a halt removes the market and the minute's market. Resuming restores neither"
 unfoldable pub figuresAfter : Figures → Call → Figures
-figuresAfter f (call.Quote m) = called f (f .halted) (withMarkets (f .day) (quoted (f .day .markets) m))
-figuresAfter f (call.Trade t) = called f (f .halted) (withTrades (f .day) (traded (f .day) t))
-figuresAfter f call.Halt = called f true (withMarkets (f .day) noMarkets)
-figuresAfter f call.Resume = called f false (f .day)
+figuresAfter f (call.Quote m) = withBegunDay f (f .halted) (withMarkets (f .day) (quoted (f .day .markets) m))
+figuresAfter f (call.Trade t) = withBegunDay f (f .halted) (withTrades (f .day) (traded (f .day) t))
+figuresAfter f call.Halt = withBegunDay f true (withMarkets (f .day) noMarkets)
+figuresAfter f call.Resume = withBegunDay f false (f .day)
 figuresAfter f (call.MinuteEnd u) =
     let valid = isValid (termsOn f) (f .halted) (f .day .markets .minute) u in
-    called f (f .halted) (withMinutes (withMarkets (f .day) (nextMinute (f .day .markets))) (minuteEnded (f .day) valid u))
+    withBegunDay f (f .halted) (withMinutes (withMarkets (f .day) (nextMinute (f .day .markets))) (minuteEnded (f .day) valid u))
 figuresAfter f (call.Fix set) = withDay f (f .halted) (withFixed (f .day) (fixedAt f set))
 figuresAfter f call.Close = closedFigures f
-figuresAfter f (call.DayLength l) = called f (f .halted) (withLength (f .day) l)
+figuresAfter f (call.DayLength l) = withBegunDay f (f .halted) (withLength (f .day) l)
 
 -- what the answer to an accepted call says of a fix
 unfoldable pub fixingOf : Figures → Call → Fixing

@@ -6,7 +6,7 @@ ghost use Rattle.refusals.specs.Refusals.{mostDays};
 ghost use Rattle.day_effects.specs.Inner.{RoomForTrade};
 ghost use Rattle.figures.specs.Figures.{numbered, figuresHold};
 ghost use Rattle.figures.specs.Fixing.{Fixable};
-ghost use Rattle.outcomes.specs.Effects.{called, figuresAfter};
+ghost use Rattle.outcomes.specs.Effects.{withBegunDay, figuresAfter};
 ghost use Rattle.outcomes.specs.Outcome.{outcome};
 use calls::Call;
 use calls::Market;
@@ -24,7 +24,7 @@ use refusals::resume_code;
 
 // No refusal, and the figures with another day: a date that has begun.
 fn changed(mut figures: Figures, day: Day) -> Outcome
-    ensures { λ r. ⌜ r ≡ numbered (called figures (figures .halted) day) 0 ⌝ }
+    ensures { λ r. ⌜ r ≡ numbered (withBegunDay figures (figures .halted) day) 0 ⌝ }
 {
     figures.day = day;
     figures.day.session.begun = true;

@@ -33,29 +33,18 @@ impl RefusalRules for MinuteEndsTo1320 {
     }
 }
 
-pub struct FixFrom1320;
+/// A fix may come after so many minutes of a day of this length.
+pub struct FixFrom(fn(usize) -> usize);
 
-impl RefusalRules for FixFrom1320 {
-    fn fix_is_early(&self, day: &Day, _length: usize) -> bool {
-        RightLedger.fix_is_early(day, FULL_DAY.into())
-    }
-}
-
-pub struct FixFrom1140;
-
-impl RefusalRules for FixFrom1140 {
-    fn fix_is_early(&self, day: &Day, _length: usize) -> bool {
-        RightLedger.fix_is_early(day, SHORT_DAY.into())
-    }
-}
-
-pub struct FixOneMinuteEarly;
-
-impl RefusalRules for FixOneMinuteEarly {
+impl RefusalRules for FixFrom {
     fn fix_is_early(&self, day: &Day, length: usize) -> bool {
-        RightLedger.fix_is_early(day, length - 1)
+        RightLedger.fix_is_early(day, self.0(length))
     }
 }
+
+pub static FIX_FROM_1320: FixFrom = FixFrom(|_| FULL_DAY.into());
+pub static FIX_FROM_1140: FixFrom = FixFrom(|_| SHORT_DAY.into());
+pub static FIX_ONE_MINUTE_EARLY: FixFrom = FixFrom(|length| length - 1);
 
 pub struct CloseKeepsLength;
 
