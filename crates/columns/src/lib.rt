@@ -1,4 +1,5 @@
 // The account columns of a book: their limits, and what a report does with them.
+#![tactic(auto)]
 pub mod limits;
 pub mod report;
 

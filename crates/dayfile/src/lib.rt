@@ -1,4 +1,5 @@
 // The reader of day files: records of a one-byte tag, a two-byte length and a body, high byte first.
+#![tactic(auto)]
 ghost use Rattle.std.specs.Prelude.{◌≡◌, ◌+◌, ◌≤◌, length};
 ghost use Rattle.tags.specs.Tags.{tag_of};
 ghost use Rattle.bodies.specs.Body.{byte_at};

@@ -1,4 +1,5 @@
 // The run of a fresh book over a day file, for programs in C.
+#![tactic(auto)]
 ghost use Rattle.std.specs.Prelude.{◌≡◌, length};
 ghost use Rattle.host.specs.Run.{accepted_records, reported_positions, reported_cash, FromBytes};
 

@@ -1,4 +1,6 @@
 // Division rounded to the nearest whole number. proofs/ is a library of laws of the integers that the other crates cite.
+#![tactic(auto)]
+
 ghost use Rattle.std.specs.Prelude.{◌≡◌, cond, ◌+◌, ◌<◌, ◌^◌, pos, nat_abs, ◌+ℤ◌, ◌<ℤ◌};
 ghost use Rattle.integers.specs.Rounding.{with_sign_of, on_tie, rounded, half_even};
 ghost use Rattle.integers.specs.Size.{within};

@@ -1,4 +1,5 @@
 // What each record prints, as a value, and the book after it.
+#![tactic(auto)]
 ghost use Rattle.std.specs.Prelude.{◌≡◌};
 ghost use Rattle.columns.specs.Columns.{accounts};
 ghost use Rattle.ledger.specs.Inner.{book_of, WithinLimits};

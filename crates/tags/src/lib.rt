@@ -1,4 +1,5 @@
 // The tags of records, and the bytes of their bodies.
+#![tactic(auto)]
 ghost use Rattle.std.specs.Prelude.{◌≡◌};
 ghost use Rattle.tags.specs.Tags.{byte_of, tag_of, body_length};
 

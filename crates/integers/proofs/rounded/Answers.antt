@@ -12,39 +12,38 @@ use mir.Syntax.{w64}
 use mir.Val.{SFits, to_z, of_z}
 use mir.Facts.{to_z-of_z}
 use borrow.Author.Tests.{ltb-true, eqb-true}
-use borrow.Author.Rules.{rules}
 use Rattle.integers.specs.Rounding.{with_sign_of, on_tie}
 use Rattle.integers.proofs.Order.{size, fits_abs, lt_to, <ℤ-weaken}
 use Rattle.integers.proofs.Machine.{bits_pos, quot_fits, rem_fits, rem_lt, quot_rem_size, as_unsigned}
 use Rattle.integers.proofs.Rounding.{stays, goes_on}
-use Rattle.integers.proofs.rounded.Statement.{statement}
-use Rattle.integers.proofs.rounded.Tie as tie
+use Rattle.integers.proofs.rounded.Goals as goal
+use Rattle.integers.proofs.rounded.Goals.{After-magnitude-size, After-tie_goes_on, Start, Then-goes_on}
 
-module _ (s : tie.Start) where
+module _ (s : Start) where
   x_back : to_z w64 (of_z w64 s.args.x) ≡ s.args.x
   x_back = to_z-of_z s.ranges.x
 
   d_back : to_z w64 (of_z w64 s.args.d) ≡ s.args.d
-  d_back = to_z-of_z s.fits.d
+  d_back = to_z-of_z s.ranges.d
 
   q_fits : SFits w64 (quot_z s.args.x s.args.d)
-  q_fits = quot_fits s.args.x s.args.d s.fits.x s.pre
+  q_fits = quot_fits s.args.x s.args.d s.ranges.x s.requires
 
   q_back : to_z w64 (of_z w64 (quot_z s.args.x s.args.d)) ≡ quot_z s.args.x s.args.d
   q_back = to_z-of_z q_fits
 
   r_back : to_z w64 (of_z w64 (rem_z s.args.x s.args.d)) ≡ rem_z s.args.x s.args.d
-  r_back = to_z-of_z (rem_fits s.args.x s.args.d s.fits.x)
+  r_back = to_z-of_z (rem_fits s.args.x s.args.d s.ranges.x)
 
   d_size : 0 < nat_abs s.args.d
-  d_size = omega (arith, lt_to s.pre, size s.args.d)
+  d_size = omega (arith, lt_to s.requires, size s.args.d)
 
   -- a divisor that a remainder is at least half of is at least 2, and the quotient at most half of the dividend
   q_half : nat_abs s.args.d ≤ 2 * nat_abs (rem_z s.args.x s.args.d) → nat_abs (quot_z s.args.x s.args.d) ≤ 4611686018427387903
   q_half h =
       let r = rem_lt s.args.x s.args.d d_size in
       let l : 2 ≤ nat_abs s.args.d = omega arith in
-      omega (arith, quot_rem_size s.args.x s.args.d, fits_abs s.fits.x, mul-le-mul_right (nat_abs (quot_z s.args.x s.args.d)) l)
+      omega (arith, quot_rem_size s.args.x s.args.d, fits_abs s.ranges.x, mul-le-mul_right (nat_abs (quot_z s.args.x s.args.d)) l)
 
   q_small : nat_abs s.args.d ≤ 2 * nat_abs (rem_z s.args.x s.args.d) → nat_abs (quot_z s.args.x s.args.d) + 1 < 2 ^ 63
   q_small h = omega (arith, q_half h)
@@ -54,36 +53,30 @@ module _ (s : tie.Start) where
   q_is = ap₂ (λ x d. to_z w64 (of_z w64 (quot_z x d))) x_back d_back ∙ q_back
 
 -- the remainder's size, and that it is below the divisor
-size_is : (c : tie.After-magnitude) → c.magnitude.result ≡ nat_abs (rem_z c.before.args.x c.before.args.d)
-size_is c = c.magnitude.ensures ∙ ap nat_abs (ap₂ (λ x d. to_z w64 (of_z w64 (rem_z x d))) (x_back c.before) (d_back c.before) ∙ r_back c.before)
+size_is : (c : After-magnitude-size) → c.magnitude-size.result ≡ nat_abs (rem_z c.args.x c.args.d)
+size_is c = c.magnitude-size.ensures ∙ ap nat_abs (ap₂ (λ x d. to_z w64 (of_z w64 (rem_z x d))) (x_back c.before) (d_back c.before) ∙ r_back c.before)
 
-size_below : (c : tie.After-magnitude) → c.magnitude.result < nat_abs c.before.args.d
-size_below c = rw (size_is c) (rem_lt c.before.args.x c.before.args.d (d_size c.before))
+size_below : (c : After-magnitude-size) → c.magnitude-size.result < nat_abs c.args.d
+size_below c = rw (size_is c) (rem_lt c.args.x c.args.d (d_size c.before))
 
 -- what `farther` gives, after any of its two calls
-farther_is : (s : tie.Start) {q x r : ℤ} → SFits w64 r → q ≡ quot_z s.args.x s.args.d → x ≡ s.args.x → r ≡ q +ℤ with_sign_of x 1 → to_z w64 (of_z w64 r) ≡ quot_z s.args.x s.args.d +ℤ with_sign_of s.args.x 1
+farther_is : (s : Start) {q x r : ℤ} → SFits w64 r → q ≡ quot_z s.args.x s.args.d → x ≡ s.args.x → r ≡ q +ℤ with_sign_of x 1 → to_z w64 (of_z w64 r) ≡ quot_z s.args.x s.args.d +ℤ with_sign_of s.args.x 1
 farther_is s f e g h = to_z-of_z f ∙ h ∙ ap₂ (λ q x. q +ℤ with_sign_of x 1) e g
 
-div_q : tie.Need-nonzero-div-q
-div_q c = rw (x_back c, d_back c) (bits_pos w64 c.requires, q_fits c)
+pub nonzero_div-q : goal.nonzero_div-q
+nonzero_div-q c = rw (x_back c, d_back c) (bits_pos w64 c.requires, q_fits c)
 
-rem_r : tie.Need-nonzero-rem-r
-rem_r c = div_q c
+pub nonzero_rem-r : goal.nonzero_rem-r
+nonzero_rem-r c = nonzero_div-q c
 
-magnitude_requires : tie.Need-magnitude-requires
-magnitude_requires c κs = search rules
+pub overflow_cast-left : goal.overflow_cast-left
+overflow_cast-left c = rw (d_back c.before) (as_unsigned (<ℤ-weaken c.requires) c.ranges.d)
 
-cast_left : tie.Need-overflow-cast-left
-cast_left c = rw (d_back c.before) (as_unsigned (<ℤ-weaken c.before.requires) c.before.ranges.d)
+pub overflow_sub-left : goal.overflow_sub-left
+overflow_sub-left c = rw (d_back c.before) (omega (arith, size_below c))
 
-sub_left : tie.Need-overflow-sub-left
-sub_left c = rw (d_back c.before) (omega (arith, size_below c))
-
-tie_goes_on_requires : tie.Need-tie-goes-on-requires
-tie_goes_on_requires c κs = search rules
-
-module _ (c : tie.After-tie-goes-on) where
-  abbrev start : tie.Start
+module _ (c : After-tie_goes_on) where
+  abbrev start : Start
   start = c.before.before
 
   abbrev quotient : ℕ
@@ -98,18 +91,18 @@ module _ (c : tie.After-tie-goes-on) where
   left_is : left + rest ≡ nat_abs start.args.d
   left_is = omega (arith, size_is c.before, size_below c.before)
 
-  tie_is : on_tie start.args.tie quotient ≡ quotient + cond c.tie-goes-on.result 1 0
-  tie_is = rw (q_is start) at c.tie-goes-on.ensures
+  tie_is : on_tie start.args.tie quotient ≡ quotient + cond c.tie_goes_on.result 1 0
+  tie_is = rw (q_is start) at c.tie_goes_on.ensures
 
   abbrev goes : ℤ → ℕ → Bool
-  goes d r = ltb (nat_abs d - r) r || (eqb (nat_abs d - r) r && c.tie-goes-on.result)
+  goes d r = ltb (nat_abs d - r) r || (eqb (nat_abs d - r) r && c.tie_goes_on.result)
 
   -- what the machine tests
-  test_is : goes (to_z w64 (of_z w64 start.args.d)) c.before.magnitude.result ≡ goes start.args.d rest
+  test_is : goes (to_z w64 (of_z w64 start.args.d)) c.magnitude-size.result ≡ goes start.args.d rest
   test_is = ap₂ goes (d_back start) (size_is c.before)
 
-goes_is : (c : tie.Then1) → let a = c.before in goes a (start a).args.d (rest a) ≡ true
-goes_is c = sym (test_is c.before) ∙ c.if1.true
+goes_is : (c : Then-goes_on) → let a = c.before in goes a (start a).args.d (rest a) ≡ true
+goes_is c = sym (test_is c.before) ∙ c.if-goes_on.true
 
 reached : (l r d : ℕ) (g : Bool) → ltb l r || (eqb l r && g) ≡ true → l + r ≡ d → d ≤ 2 * r
 reached l r d g h e = go (ltb l r) (eqb l r) refl refl h
@@ -119,38 +112,24 @@ reached l r d g h e = go (ltb l r) (eqb l r) refl refl h
     go false true p q h = omega (arith, eqb-true l r q, e)
     go false false p q h = absurd (true≢false (sym h))
 
-farther_requires : tie.Need-farther-requires
-farther_requires c κs =
+pub farther-requires : goal.farther-requires
+farther-requires c =
     let a = c.before in
     let s = start a in
-    rw (q_is s) (q_small s (reached (left a) (rest a) _ a.tie-goes-on.result (goes_is c) (left_is a)))
+    rw (q_is s) (q_small s (reached (left a) (rest a) _ a.tie_goes_on.result (goes_is c) (left_is a)))
 
-returns : tie.Need-returns
-returns c =
+pub returns-then-goes_on : goal.returns-then-goes_on
+returns-then-goes_on c =
     let t = c.before in
     let a = t.before in
     let s = start a in
-    farther_is s (record { sfits = c.farther.type-inv }) (q_is s) (x_back s) c.farther.ensures
-    ∙ goes_on s.args.x s.args.d s.pre s.args.tie (left a) a.tie-goes-on.result (left_is a) (tie_is a) (goes_is t)
+    farther_is s (record { sfits = c.farther.type_inv }) (q_is s) (x_back s) c.farther.ensures
+    ∙ goes_on s.args.x s.args.d s.requires s.args.tie (left a) a.tie_goes_on.result (left_is a) (tie_is a) (goes_is t)
 
-returns_2 : tie.Need-returns-2
-returns_2 c =
+pub returns-else-goes_on : goal.returns-else-goes_on
+returns-else-goes_on c =
     let a = c.before in
     let s = start a in
     q_is s
-    ∙ stays s.args.x s.args.d s.pre s.args.tie (left a) a.tie-goes-on.result (left_is a) (tie_is a)
-    (sym (test_is a) ∙ c.if1.false)
-
-pub rounded_spec : {M : Type 1} → statement M
-rounded_spec =
-    tie.close
-    (tie.spec
-    div_q
-    rem_r
-    magnitude_requires
-    cast_left
-    sub_left
-    tie_goes_on_requires
-    farther_requires
-    returns
-    returns_2)
+    ∙ stays s.args.x s.args.d s.requires s.args.tie (left a) a.tie_goes_on.result (left_is a) (tie_is a)
+    (sym (test_is a) ∙ c.if-goes_on.false)
