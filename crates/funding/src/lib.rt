@@ -1,6 +1,7 @@
 // The minutes of the exchange's funding methodology (document 001): spread test, futures price, basis and weighted sum, in
 // whole numbers. A price is in cents, a basis in nano (10^-9).
 #![tactic(auto)]
+
 ghost use Rattle.std.specs.Prelude.{◌≡◌, ◌<◌, ◌≤◌};
 ghost use Rattle.funding.specs.Minute.{within_spread, futures_price, basis_of, Accrues, accrued, weighted_limit, most_minutes};
 

@@ -7,7 +7,6 @@
 use mathlib.Core.Path.{◌≡◌, refl, ◌∙◌, ap, ap₂}
 use mathlib.Core.Bool.{Bool, true, false, ◌&&◌, ◌||◌, or-true}
 use Prim.Native.Nat.{ℕ, ◌%◌, ◌≤◌}
-use native.Mathlib.Omega.{arith}
 use lib.Dec.{leb, eqb}
 use borrow.Author.Tests.{leb-true, le-leb, not-true}
 use Rattle.integers.proofs.Tests.{tests, both_true}

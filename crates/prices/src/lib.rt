@@ -1,5 +1,6 @@
 // Prices, in cents.
 #![tactic(auto)]
+
 ghost use Rattle.std.specs.Prelude.{◌≡◌};
 ghost use Rattle.prices.specs.Price.{is_price, is_ticked, none_or_price, none_or_ticked};
 
