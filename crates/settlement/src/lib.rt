@@ -1,6 +1,7 @@
 // The fix of the exchange's funding methodology (document 001): rate, clamp, amount and settlement price, in whole numbers.
 // A price is in cents, a rate in nano (10^-9), an amount in whole cents per contract, a size in hundredths of a coin.
 #![tactic(auto)]
+
 ghost use Rattle.std.specs.Prelude.{◌≡◌, ◌*◌, ◌<◌, ◌≤◌, ◌^◌, nat_abs};
 ghost use Rattle.prices.specs.Price.{largest_price};
 ghost use Rattle.settlement.specs.Fixing.{rate_of, clamped_to, amount_of, index_price, settlement_price};

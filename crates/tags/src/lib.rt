@@ -39,6 +39,7 @@ pub fn byte_of(tag: Tag) -> u8
 }
 
 // The tag of a byte.
+#[tactic(auto, unfolding(crate::specs::Tags::tag_of))]
 pub fn tag_of(byte: u8) -> Tagged
     ensures { result ≡ tag_of byte }
 {
