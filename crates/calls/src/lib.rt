@@ -17,14 +17,14 @@ pub const FULL_DAY: u32 = MOST_MINUTES;
 pub const SHORT_DAY: u32 = 1_140;
 
 // A market, or one side of it: 0 where a side doesn't stand.
-#[derive(Drop)]
+#[derive(Clone, Copy)]
 pub struct Market {
     pub bid: u32,
     pub offer: u32,
 }
 
 // A trade.
-#[derive(Drop)]
+#[derive(Clone, Copy)]
 pub struct Trade {
     pub buyer: u8,
     pub seller: u8,
@@ -34,7 +34,7 @@ pub struct Trade {
     pub price: u32,
 }
 
-#[derive(Drop)]
+#[derive(Clone, Copy)]
 pub enum Call {
     Quote(Market),
     Trade(Trade),

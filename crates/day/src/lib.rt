@@ -12,7 +12,7 @@ use settlement::FinalMinute;
 pub const MOST_AMOUNT: u64 = 10_000;
 
 // What minute ends set.
-#[derive(Drop)]
+#[derive(Clone, Copy)]
 pub struct Minutes {
     // valid count k, and weighted sum S
     pub valid: u32,
@@ -24,14 +24,14 @@ pub struct Minutes {
 }
 
 // What quotes and halts set: the standing market and the minute's market.
-#[derive(Drop)]
+#[derive(Clone, Copy)]
 pub struct Markets {
     pub standing: Market,
     pub minute: Market,
 }
 
 // What trades set.
-#[derive(Drop)]
+#[derive(Clone, Copy)]
 pub struct Trades {
     // the last trade
     pub last: u32,
@@ -40,14 +40,14 @@ pub struct Trades {
 }
 
 // What a fix sets. A price of 0 means that the day isn't fixed.
-#[derive(Drop)]
+#[derive(Clone, Copy)]
 pub struct Fixed {
     pub price: u32,
     pub amount: i64,
 }
 
 // What the first call of a date sets.
-#[derive(Drop)]
+#[derive(Clone, Copy)]
 pub struct Session {
     // the minutes of the day
     pub length: u32,
@@ -56,7 +56,7 @@ pub struct Session {
 }
 
 // The day's figures, which a close empties. A price, an index or a side is 0 where there is none.
-#[derive(Drop)]
+#[derive(Clone, Copy)]
 pub struct Day {
     pub fixed: Fixed,
     pub trades: Trades,

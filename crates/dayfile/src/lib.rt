@@ -14,7 +14,7 @@ pub const HEAD: usize = 3;
 
 // What stands at a place of a file. The usize is the place of the next record. It comes first, so that it lies at one offset in
 // every variant and no call is put together over it.
-#[derive(Drop)]
+#[derive(Clone, Copy)]
 pub enum Read {
     End,
     CutOff,

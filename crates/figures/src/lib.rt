@@ -16,7 +16,7 @@ pub mod product;
 
 // All that a book holds beside its account columns. Here, in `Outcome` and in the structs of `day` the order of the fields is the
 // one with which a run is fastest (`make speed`).
-#[derive(Drop)]
+#[derive(Clone, Copy)]
 pub struct Figures {
     pub day: Day,
     pub size: u32,
@@ -27,7 +27,7 @@ pub struct Figures {
 }
 
 // What a fix prints; zeros for any other call.
-#[derive(Drop)]
+#[derive(Clone, Copy)]
 pub struct Fixing {
     pub price: u32,
     // the clamped rate
@@ -38,7 +38,7 @@ pub struct Fixing {
 }
 
 // The refusal's number and the same figures, or 0 and the new ones.
-#[derive(Drop)]
+#[derive(Clone, Copy)]
 pub struct Outcome {
     pub figures: Figures,
     pub fixing: Fixing,

@@ -9,7 +9,7 @@ use funding::Terms;
 use settlement::Previous;
 
 // A product, by its contract size in hundredths of a coin.
-#[derive(Drop)]
+#[derive(Clone, Copy)]
 pub struct Product {
     pub size: u32,
 }

@@ -14,7 +14,7 @@ const NANO: i64 = 1_000_000_000;
 
 // What the exchange sets for a product: the clamp's size below zero and above it, in nano, and the spread limit in units of
 // 0.0001.
-#[derive(Drop)]
+#[derive(Clone, Copy)]
 pub struct Terms {
     pub below: u32,
     pub above: u32,

@@ -6,7 +6,7 @@ ghost use Rattle.integers.specs.Rounding.{with_sign_of, on_tie, rounded, half_ev
 ghost use Rattle.integers.specs.Size.{within};
 
 // Where a quotient half way between two whole numbers goes.
-#[derive(Drop)]
+#[derive(Clone, Copy)]
 pub enum Tie {
     // to the even one
     Even,

@@ -10,7 +10,7 @@ use figures::product::Product;
 use integers::Tie;
 
 // The valid minutes of an example so far, and their weighted sum.
-#[derive(Drop)]
+#[derive(Clone, Copy)]
 pub struct Weighted {
     pub count: u32,
     pub sum: i64,

@@ -14,7 +14,7 @@ use figures::{Figures, Fixing, Outcome};
 use ledger::step::step_on;
 
 // The lines of one record.
-#[derive(Drop)]
+#[derive(Clone, Copy)]
 pub enum Printed {
     Nothing,
     // refused NUMBER record PLACE
@@ -26,7 +26,7 @@ pub enum Printed {
 }
 
 // What a record prints, and the figures after it.
-#[derive(Drop)]
+#[derive(Clone, Copy)]
 pub struct Played {
     pub printed: Printed,
     pub figures: Figures,

@@ -32,7 +32,7 @@ fn count(accepted: u64, code: u8) -> u64
 }
 
 // What a part of a run has come to: the records accepted, the place of the next one, and the figures.
-#[derive(Drop)]
+#[derive(Clone, Copy)]
 struct Progress {
     accepted: u64,
     at: usize,

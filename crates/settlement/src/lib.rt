@@ -13,14 +13,14 @@ use integers::Tie;
 const AMOUNT_SCALE: i64 = 100_000_000_000;
 
 // The kind 0 trades of a day's last minute: document 01's n, their contracts, and gross, quantity × price added up.
-#[derive(Drop)]
+#[derive(Clone, Copy)]
 pub struct FinalMinute {
     pub contracts: u32,
     pub gross: u64,
 }
 
 // The settlement price and the index of the closed day before, 0 without one.
-#[derive(Drop)]
+#[derive(Clone, Copy)]
 pub struct Previous {
     pub price: u32,
     pub index: u32,

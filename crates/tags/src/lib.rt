@@ -4,7 +4,7 @@ ghost use Rattle.std.specs.Prelude.{◌≡◌};
 ghost use Rattle.tags.specs.Tags.{byte_of, tag_of, body_length};
 
 // The known tags.
-#[derive(Drop)]
+#[derive(Clone, Copy)]
 pub enum Tag {
     Trade,
     Quote,
@@ -16,7 +16,7 @@ pub enum Tag {
     DayLength,
 }
 
-#[derive(Drop)]
+#[derive(Clone, Copy)]
 pub enum Tagged {
     Known(Tag),
     Unknown,
