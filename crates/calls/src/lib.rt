@@ -1,5 +1,6 @@
 // The calls of a trade date, with the markets, trades and lengths of day that they bring.
 #![tactic(auto)]
+
 ghost use Rattle.std.specs.Prelude.{◌≡◌};
 ghost use Rattle.calls.specs.Market.{two_sided, uncrossed, as_minute, is_valid, market_holds, minute_market_holds};
 ghost use Rattle.calls.specs.Trade.{trade_outside};
