@@ -2,9 +2,8 @@
 --     decimal-short     20 digits at most
 --     signed-short      and a minus
 -- Assumes nothing.
-use mathlib.Core.Path.{◌≡◌}
 use mathlib.Core.Bool.{cond}
-use mathlib.Core.List.{List, [], ◌∷◌}
+use mathlib.Core.List.{List, []}
 use Prim.Native.Nat.{ℕ, zero, suc, ◌/◌, ◌≤◌}
 use native.Mathlib.Omega.{arith}
 use lib.Dec.{ltb}

@@ -1,6 +1,7 @@
 // Text put into a part of a buffer: the buffer lies over a longer text from an offset on, and each function puts the bytes that
 // fall within it and answers where the text goes on.
 #![tactic(auto)]
+
 ghost use Rattle.std.specs.Prelude.{◌≡◌, ◌++◌, length};
 ghost use Rattle.text.specs.Text.{decimal, signed, placed_byte, Room, Put, Spelled};
 
