@@ -1,5 +1,6 @@
 // The calls that the bodies of records bring.
 #![tactic(auto)]
+
 ghost use Rattle.std.specs.Prelude.{◌≡◌, ◌+◌, ◌≤◌, ◌<◌, length};
 ghost use Rattle.tags.specs.Tags.{body_length};
 ghost use Rattle.bodies.specs.Body.{two_bytes, four_bytes, trade_at, quote_at, call_of};
