@@ -1,5 +1,6 @@
 // Which refusal a call meets, by its values and what the book says of it: refusals 3 to 9, where its accounts give none.
 #![tactic(auto)]
+
 ghost use Rattle.std.specs.Prelude.{◌≡◌, false};
 ghost use Rattle.refusals.specs.Refusals.{is_full, refusal_by};
 
