@@ -1,5 +1,6 @@
 // One trade date of a contract by its parts: a new one, its limits, and what it forbids.
 #![tactic(auto)]
+
 ghost use Rattle.std.specs.Prelude.{◌≡◌};
 ghost use Rattle.day.specs.Day.{day_length, no_markets, empty_day, in_last_minute, forbids_minute_end, forbids_fix};
 ghost use Rattle.day.specs.Limits.{markets_hold, minutes_hold, final_holds, day_holds};
@@ -143,6 +144,7 @@ impl Day {
     }
 
     // Whether the day is within its limits.
+    #[tactic(auto, unfolding(crate::specs::Limits::day_holds))]
     pub fn holds(self) -> bool
         ensures { result ≡ day_holds self }
     {
