@@ -1,5 +1,6 @@
 // What quotes, halts, trades, minute ends and a fix leave of a day.
 #![tactic(auto)]
+
 ghost use Rattle.std.specs.Prelude.{◌≡◌, cond, ◌+◌, ◌≤◌};
 ghost use Rattle.funding.specs.Minute.{most_minutes};
 ghost use Rattle.day.specs.Day.{no_markets};
