@@ -1,5 +1,6 @@
 // The figures of a book: all that it holds beside its account columns.
 #![tactic(auto)]
+
 ghost use Rattle.std.specs.Prelude.{◌≡◌};
 ghost use Rattle.figures.specs.Figures.{terms_on, tie_on, no_fixing, numbered, figures_hold};
 ghost use Rattle.figures.specs.Fixing.{fixing_at, Fixable};
