@@ -1,5 +1,6 @@
 // The account columns of a book: their limits, and what a report does with them.
 #![tactic(auto)]
+
 pub mod limits;
 pub mod report;
 
