@@ -1,5 +1,6 @@
 // The reader of day files: records of a one-byte tag, a two-byte length and a body, high byte first.
 #![tactic(auto)]
+
 ghost use Rattle.std.specs.Prelude.{◌≡◌, ◌+◌, ◌≤◌, length};
 ghost use Rattle.tags.specs.Tags.{tag_of};
 ghost use Rattle.bodies.specs.Body.{byte_at};
@@ -77,6 +78,7 @@ fn complete_record(file: &[u8], at: usize, stated: usize) -> Read
 }
 
 // What stands at a place of a file, whatever its bytes and wherever the place.
+#[tactic(auto, unfolding(crate::specs::Record::read_at))]
 pub fn read_record(file: &[u8], at: usize) -> Read
     ensures record { result ≡ read_at file.now at }
     ensures number { read_number result ≡ record_refusal file.now at }
