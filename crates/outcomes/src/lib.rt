@@ -1,5 +1,6 @@
 // What each call makes of the figures where it looks at no account.
 #![tactic(auto)]
+
 ghost use Rattle.std.specs.Prelude.{◌≡◌, true, ◌≤◌};
 ghost use Rattle.refusals.specs.Refusals.{most_days};
 ghost use Rattle.day_effects.specs.Inner.{RoomForTrade};
