@@ -21,7 +21,7 @@ pub mod step;
 
 // A contract's book: its figures and, for each account, the opening and the present position, the cost and the contracts
 // bought plus sold today (v), and the cash.
-#[derive(Drop)]
+#[derive(Clone, Copy)]
 pub struct Book {
     pub figures: Figures,
     pub opening: [i64; ACCOUNTS],
@@ -32,7 +32,7 @@ pub struct Book {
 }
 
 // The refusal's number and the same book, or 0 and the new one.
-#[derive(Drop)]
+#[derive(Clone, Copy)]
 pub struct Answer {
     pub code: u8,
     pub fixing: Fixing,

@@ -23,7 +23,7 @@ pub fn step_on(
     call: Call,
 ) -> Outcome
     ghost b: { Book }
-    requires cash_value { book_of figures opening.old position.old cost.old volume.old cash.old ≡ b }
+    requires same_book { book_of figures opening.old position.old cost.old volume.old cash.old ≡ b }
     requires within_limits { WithinLimits accounts b }
     ensures { answer_of result opening.new position.new cost.new volume.new cash.new
         ≡ step accounts b call }

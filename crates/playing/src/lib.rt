@@ -84,7 +84,7 @@ pub fn play_record(
     place: u64,
 ) -> Played
     ghost b: { Book }
-    requires cash_value { book_of figures opening.old position.old cost.old volume.old cash.old ≡ b }
+    requires same_book { book_of figures opening.old position.old cost.old volume.old cash.old ≡ b }
     requires within_limits { WithinLimits accounts b }
     ensures { played_of result opening.new position.new cost.new volume.new cash.new
         ≡ played_record b read place }

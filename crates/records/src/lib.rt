@@ -17,7 +17,7 @@ use tags::{Tag, body_length};
 use trading::trade_on;
 
 // Where a run ended: the records accepted, and the book.
-#[derive(Drop)]
+#[derive(Clone, Copy)]
 pub struct RunEnd {
     pub accepted: u64,
     pub book: Book,
@@ -87,7 +87,7 @@ fn minute_ends(
     cash: &[i64; ACCOUNTS],
 ) -> Progress
     ghost b: { Book }
-    requires cash_value { book_of from.figures opening.now position.now cost.now volume.now cash.now ≡ b }
+    requires same_book { book_of from.figures opening.now position.now cost.now volume.now cash.now ≡ b }
     requires ready { Ready file.now b from.accepted from.at }
     ensures { Running file.now b from.accepted from.at
         (book_of result.figures opening.now position.now cost.now volume.now cash.now)
@@ -122,7 +122,7 @@ fn trades(
     cash: &[i64; ACCOUNTS],
 ) -> Progress
     ghost b: { Book }
-    requires cash_value { book_of from.figures opening.now position.old cost.old volume.old cash.now ≡ b }
+    requires same_book { book_of from.figures opening.now position.old cost.old volume.old cash.now ≡ b }
     requires ready { Ready file.now b from.accepted from.at }
     ensures { Running file.now b from.accepted from.at
         (book_of result.figures opening.now position.new cost.new volume.new cash.now)
@@ -157,7 +157,7 @@ fn any_record(
     cash: &mut [i64; ACCOUNTS],
 ) -> Progress
     ghost b: { Book }
-    requires cash_value { book_of from.figures opening.old position.old cost.old volume.old cash.old ≡ b }
+    requires same_book { book_of from.figures opening.old position.old cost.old volume.old cash.old ≡ b }
     requires ready { Ready file.now b from.accepted from.at }
     ensures { Running file.now b from.accepted from.at
         (book_of result.figures opening.new position.new cost.new volume.new cash.new)
