@@ -1,6 +1,7 @@
 // The close of a day, on the figures by value and the lent account columns: every account's cash is posted, and the day's
 // columns start empty.
 #![tactic(auto)]
+
 ghost use Rattle.std.specs.Prelude.{◌≡◌};
 ghost use Rattle.columns.specs.Columns.{accounts, table};
 ghost use Rattle.closing.specs.Closing.{posted};
