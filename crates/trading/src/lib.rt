@@ -1,5 +1,6 @@
 // A trade, on the figures by value and the three account columns that it changes, which are lent.
 #![tactic(auto)]
+
 ghost use Rattle.std.specs.Prelude.{◌≡◌};
 ghost use Rattle.columns.specs.Columns.{accounts};
 ghost use Rattle.columns.specs.Limits.{most_position};
