@@ -1,5 +1,6 @@
 // The ledger of one contract, from the first quote of a trade date to the cash posted at its close.
 #![tactic(auto)]
+
 ghost use Rattle.std.specs.Prelude.{◌≡◌, length};
 ghost use Rattle.columns.specs.Columns.{accounts};
 ghost use Rattle.ledger.specs.Refusals.{within_limits};

@@ -3,7 +3,6 @@ ghost use Rattle.std.specs.Prelude.{◌≡◌};
 ghost use Rattle.columns.specs.Columns.{accounts};
 ghost use Rattle.ledger.specs.Refusals.{within_limits};
 ghost use Rattle.ledger.specs.Inner.{book_of};
-ghost use Rattle.ledger.specs.declared.Book.{Book};
 
 use columns::ACCOUNTS;
 use columns::limits::{accounts_hold, volume_of};
@@ -18,9 +17,8 @@ pub fn limits_hold(
     volume: &[u32; ACCOUNTS],
     cash: &[i64; ACCOUNTS],
 ) -> bool
-    ghost b: { Book }
-    requires { book_of figures opening.now position.now cost.now volume.now cash.now ≡ b }
-    ensures { result ≡ within_limits accounts b }
+    ensures { let b = book_of figures opening.now position.now cost.now volume.now cash.now in
+        result ≡ within_limits accounts b }
 {
     if !figures.holds() {
         return false;

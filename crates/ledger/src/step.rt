@@ -3,7 +3,6 @@ ghost use Rattle.std.specs.Prelude.{◌≡◌};
 ghost use Rattle.columns.specs.Columns.{accounts};
 ghost use Rattle.ledger.specs.Step.{step};
 ghost use Rattle.ledger.specs.Inner.{book_of, answer_of, WithinLimits};
-ghost use Rattle.ledger.specs.declared.Book.{Book};
 
 use calls::Call;
 use closing::close_on;
@@ -22,10 +21,10 @@ pub fn step_on(
     cash: &mut [i64; ACCOUNTS],
     call: Call,
 ) -> Outcome
-    ghost b: { Book }
-    requires same_book { book_of figures opening.old position.old cost.old volume.old cash.old ≡ b }
-    requires within_limits { WithinLimits accounts b }
-    ensures { answer_of result opening.new position.new cost.new volume.new cash.new
+    requires { let b = book_of figures opening.old position.old cost.old volume.old cash.old in
+        WithinLimits accounts b }
+    ensures { let b = book_of figures opening.old position.old cost.old volume.old cash.old in
+        answer_of result opening.new position.new cost.new volume.new cash.new
         ≡ step accounts b call }
 {
     match call {

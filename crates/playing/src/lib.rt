@@ -1,9 +1,9 @@
 // What each record prints, as a value, and the book after it.
 #![tactic(auto)]
+
 ghost use Rattle.std.specs.Prelude.{◌≡◌};
 ghost use Rattle.columns.specs.Columns.{accounts};
 ghost use Rattle.ledger.specs.Inner.{book_of, WithinLimits};
-ghost use Rattle.ledger.specs.declared.Book.{Book};
 ghost use Rattle.dayfile.specs.Record.{read_number};
 ghost use Rattle.playing.specs.Printed.{printed_number, printed_by, played_of, played_record};
 
@@ -83,10 +83,10 @@ pub fn play_record(
     read: Read,
     place: u64,
 ) -> Played
-    ghost b: { Book }
-    requires same_book { book_of figures opening.old position.old cost.old volume.old cash.old ≡ b }
-    requires within_limits { WithinLimits accounts b }
-    ensures { played_of result opening.new position.new cost.new volume.new cash.new
+    requires { let b = book_of figures opening.old position.old cost.old volume.old cash.old in
+        WithinLimits accounts b }
+    ensures { let b = book_of figures opening.old position.old cost.old volume.old cash.old in
+        played_of result opening.new position.new cost.new volume.new cash.new
         ≡ played_record b read place }
 {
     match read {

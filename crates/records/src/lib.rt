@@ -1,9 +1,9 @@
 // The run of a book over the records of a day file.
 #![tactic(auto)]
+
 ghost use Rattle.std.specs.Prelude.{◌≡◌, cond, ◌+◌, ◌<◌, ◌^◌, eqb, length};
 ghost use Rattle.columns.specs.Columns.{accounts};
 ghost use Rattle.ledger.specs.Inner.{book_of, WithinLimits};
-ghost use Rattle.ledger.specs.declared.Book.{Book};
 ghost use Rattle.dayfile.specs.Calls.{calls_of};
 ghost use Rattle.records.specs.Run.{run_over, Ready, Running};
 
@@ -86,10 +86,10 @@ fn minute_ends(
     volume: &[u32; ACCOUNTS],
     cash: &[i64; ACCOUNTS],
 ) -> Progress
-    ghost b: { Book }
-    requires same_book { book_of from.figures opening.now position.now cost.now volume.now cash.now ≡ b }
-    requires ready { Ready file.now b from.accepted from.at }
-    ensures { Running file.now b from.accepted from.at
+    requires { let b = book_of from.figures opening.now position.now cost.now volume.now cash.now in
+        Ready file.now b from.accepted from.at }
+    ensures { let b = book_of from.figures opening.now position.now cost.now volume.now cash.now in
+        Running file.now b from.accepted from.at
         (book_of result.figures opening.now position.now cost.now volume.now cash.now)
         result.accepted result.at }
 {
@@ -121,10 +121,10 @@ fn trades(
     volume: &mut [u32; ACCOUNTS],
     cash: &[i64; ACCOUNTS],
 ) -> Progress
-    ghost b: { Book }
-    requires same_book { book_of from.figures opening.now position.old cost.old volume.old cash.now ≡ b }
-    requires ready { Ready file.now b from.accepted from.at }
-    ensures { Running file.now b from.accepted from.at
+    requires { let b = book_of from.figures opening.now position.old cost.old volume.old cash.now in
+        Ready file.now b from.accepted from.at }
+    ensures { let b = book_of from.figures opening.now position.old cost.old volume.old cash.now in
+        Running file.now b from.accepted from.at
         (book_of result.figures opening.now position.new cost.new volume.new cash.now)
         result.accepted result.at }
 {
@@ -156,10 +156,10 @@ fn any_record(
     volume: &mut [u32; ACCOUNTS],
     cash: &mut [i64; ACCOUNTS],
 ) -> Progress
-    ghost b: { Book }
-    requires same_book { book_of from.figures opening.old position.old cost.old volume.old cash.old ≡ b }
-    requires ready { Ready file.now b from.accepted from.at }
-    ensures { Running file.now b from.accepted from.at
+    requires { let b = book_of from.figures opening.old position.old cost.old volume.old cash.old in
+        Ready file.now b from.accepted from.at }
+    ensures { let b = book_of from.figures opening.old position.old cost.old volume.old cash.old in
+        Running file.now b from.accepted from.at
         (book_of result.figures opening.new position.new cost.new volume.new cash.new)
         result.accepted result.at × (from.at < length file.now → from.at < result.at) }
 {
