@@ -41,7 +41,7 @@ fn figure(figures: Figures, field: usize) -> u64 {
 }
 
 // The book's number at a place: a figure, then the entries of each account.
-pub fn number_at(book: Book, i: usize) -> u64 {
+pub fn number_at(book: &Book, i: usize) -> u64 {
     if i < FIGURES {
         return figure(book.figures, i);
     }

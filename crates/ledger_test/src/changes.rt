@@ -7,63 +7,70 @@ use crate::words::{
 };
 use columns::ACCOUNTS;
 use ledger::Book;
-use std::num::{wrapping_add_usize, wrapping_sub_usize};
+use std::io;
 
 // A book's numbers: its figures, then the entries of each account.
 const NUMBERS: usize = FIGURES + ENTRIES * ACCOUNTS;
 
-fn print_figure(field: usize, n: u64) {
+fn print_figure(rt: &impl Print, field: usize, n: u64) -> io::Result<()> {
     if ((field == HALTED) | (field == BEGUN)) & (n == 0) {
-        print_word(NEXT_NOT);
+        print_word(rt, NEXT_NOT)?;
     } else {
-        print_word(NEXT);
+        print_word(rt, NEXT)?;
     }
-    print_name(field);
+    print_name(rt, field)?;
     match field {
-        HALTED | BEGUN => {}
+        HALTED | BEGUN => Ok(()),
         MARKET | MINUTE => {
-            print_after(BLANK, n / HALF);
-            print_after(SLASH, n % HALF);
+            print_after(rt, BLANK, n / HALF)?;
+            print_after(rt, SLASH, n % HALF)
         }
-        _ => print_after(BLANK, n),
+        _ => print_after(rt, BLANK, n),
     }
 }
 
 // An entry, after its account where the last number that changed was none of that account's.
-fn print_entry(i: usize, changed: usize, n: u64) {
-    let place = wrapping_sub_usize(i, FIGURES);
+fn print_entry(rt: &impl Print, i: usize, changed: usize, n: u64) -> io::Result<()> {
+    let place = i.wrapping_sub(FIGURES);
     let account = place / ENTRIES;
-    if account != wrapping_sub_usize(changed, FIGURES + 1) / ENTRIES {
-        print_after(NEXT_ACCOUNT, account as u64);
+    if account != changed.wrapping_sub(FIGURES + 1) / ENTRIES {
+        print_after(rt, NEXT_ACCOUNT, account as u64)?;
     }
-    print_word(BLANK);
-    print_name(FIGURES + place % ENTRIES);
-    print_after(BLANK, n);
+    print_word(rt, BLANK)?;
+    print_name(rt, FIGURES + place % ENTRIES)?;
+    print_after(rt, BLANK, n)
 }
 
 // The place after the last number that changed, with the one at this place. Where it is to be shown, it is printed.
-fn change(i: usize, changed: usize, before: u64, after: u64, shown: bool) -> usize {
+fn change(
+    rt: &impl Print,
+    i: usize,
+    changed: usize,
+    before: u64,
+    after: u64,
+    shown: bool,
+) -> io::Result<usize> {
     if before == after {
-        return changed;
+        return Ok(changed);
     }
     if shown {
         if i < FIGURES {
-            print_figure(i, after);
+            print_figure(rt, i, after)?;
         } else {
-            print_entry(i, changed, after);
+            print_entry(rt, i, changed, after)?;
         }
     }
-    wrapping_add_usize(i, 1)
+    Ok(i.wrapping_add(1))
 }
 
 // Whether two books differ. Where it is to be shown, each number that differs is printed with its value in the second.
-pub fn changes(before: Book, after: Book, shown: bool) -> bool {
+pub fn changes(rt: &impl Print, before: &Book, after: &Book, shown: bool) -> io::Result<bool> {
     let mut changed: usize = 0;
     let mut i: usize = 0;
     while i < NUMBERS {
         let earlier = number_at(before, i);
-        changed = change(i, changed, earlier, number_at(after, i), shown);
+        changed = change(rt, i, changed, earlier, number_at(after, i), shown)?;
         i += 1;
     }
-    changed != 0
+    Ok(changed != 0)
 }

@@ -1,6 +1,7 @@
 // Drives every call and every refusal of the ledger and prints what each answers. The cases are the lines of the file stdin,
 // which says how they are written; the stored printout is worked out by hand from documents 01 and 02.
 #![tactic(auto)]
+
 mod books;
 mod changes;
 mod fields;
@@ -13,13 +14,18 @@ mod script;
 mod turn;
 mod words;
 
-use libc::STDIN_FILENO;
+use std::io;
+use std::io::Read;
 
-fn main() {
-    let mut input = io::large_buffer();
-    let n = io::read_full(STDIN_FILENO, &mut input);
-    script::run(&input[..n]);
-    if n == 65_536 {
-        print::text(b"the cases are cut off\n");
+// The bytes of the cases that are read.
+const MOST_INPUT: usize = 65_536;
+
+fn main(rt: HostRuntime) -> io::Result<()> {
+    let mut input = Vec::new(rt.alloc());
+    rt.stdin().take(MOST_INPUT as u64).read_to_end(&mut input)?;
+    script::run(&rt, &input)?;
+    if input.len() == MOST_INPUT {
+        print::text(&rt, b"the cases are cut off\n")?;
     }
+    Ok(())
 }

@@ -1,12 +1,11 @@
 // The numbers of a text. Each is 64 bits: a negative number is what 2^64 leaves of its size, and a market, as 200100/200300,
 // is its bid times 2^32 and its offer.
-use std::num::{wrapping_add_u64, wrapping_add_usize, wrapping_sub_u64};
 
 // 2^32
 pub const HALF: u64 = 4_294_967_296;
 
 // The first five numbers of a text.
-#[derive(Drop)]
+#[derive(Clone, Copy)]
 pub struct Numbers {
     pub first: u64,
     pub second: u64,
@@ -17,7 +16,7 @@ pub struct Numbers {
 }
 
 // A text that is being read.
-#[derive(Drop)]
+#[derive(Clone, Copy)]
 pub struct Reading {
     pub numbers: Numbers,
     // Where what stands before the first number ends, without the blank after it.
@@ -32,20 +31,11 @@ pub struct Reading {
 }
 
 pub fn of_signed(x: i64) -> u64 {
-    let size = integers::magnitude(x);
-    if x < 0 {
-        wrapping_sub_u64(0, size)
-    } else {
-        size
-    }
+    x.cast_unsigned()
 }
 
 pub fn as_signed(n: u64) -> i64 {
-    if n <= 9_223_372_036_854_775_807 {
-        n as i64
-    } else {
-        !((18_446_744_073_709_551_615 - n) as i64)
-    }
+    n.cast_signed()
 }
 
 impl Numbers {
@@ -91,10 +81,10 @@ impl Reading {
     // At the end of a number, if one had begun.
     fn ended(mut self, i: usize) -> Self {
         let numbers = self.numbers;
-        let n = wrapping_add_u64(self.bid, self.digits);
+        let n = self.bid.wrapping_add(self.digits);
         if self.begun {
             if self.negative {
-                self.numbers = numbers.with(wrapping_sub_u64(0, n));
+                self.numbers = numbers.with(0u64.wrapping_sub(n));
             } else {
                 self.numbers = numbers.with(n);
             }
@@ -117,7 +107,7 @@ impl Reading {
             b'0'..=b'9' => {
                 let digit = (byte - b'0') as u64;
                 self.begun = true;
-                self.digits = wrapping_add_u64(digits % 1_844_674_407_370_955_162 * 10, digit);
+                self.digits = (digits % 1_844_674_407_370_955_162 * 10).wrapping_add(digit);
                 self
             }
             b'/' => {
@@ -130,7 +120,7 @@ impl Reading {
                 self
             }
             b':' => {
-                self.call = wrapping_add_usize(i, 2);
+                self.call = i.wrapping_add(2);
                 self.ended(i)
             }
             _ => self.ended(i),

@@ -3,6 +3,7 @@ use crate::numbers::of_signed;
 use crate::turn::print_code;
 use crate::words::{BLANK, CASH, EQUALS, POSITIONS, UNCHANGED, print_after, print_word};
 use ledger::Book;
+use std::io;
 
 // What the lists hold before.
 const BEFORE: i64 = -777;
@@ -10,37 +11,51 @@ const BEFORE: i64 = -777;
 const LONGEST: usize = 257;
 
 // The entries that aren't 0; after a refusal those that aren't as before, and that the list is unchanged.
-fn print_list(name: usize, list: &[i64; LONGEST], length: usize, refused: bool) {
-    print_word(name);
+fn print_list(
+    rt: &impl Print,
+    name: usize,
+    list: &[i64; LONGEST],
+    length: usize,
+    refused: bool,
+) -> io::Result<()> {
+    print_word(rt, name)?;
     let usual = if refused { BEFORE } else { 0 };
     let mut i: usize = 0;
     while i < LONGEST {
         let entry = list[i];
         if (i < length) & (entry != usual) {
-            print_after(BLANK, i as u64);
-            print_after(EQUALS, of_signed(entry));
+            print_after(rt, BLANK, i as u64)?;
+            print_after(rt, EQUALS, of_signed(entry))?;
         }
         i += 1;
     }
     if refused {
-        print_word(UNCHANGED);
+        print_word(rt, UNCHANGED)?;
     }
+    Ok(())
 }
 
 // A report to two lists of these lengths: its number, and where they are to be shown the lists.
-pub fn report(book: Book, first: usize, second: usize, shown: bool) {
+pub fn report(
+    rt: &impl Print,
+    book: Book,
+    first: usize,
+    second: usize,
+    shown: bool,
+) -> io::Result<()> {
     let mut positions: [i64; LONGEST] = [BEFORE; LONGEST];
     let mut cash: [i64; LONGEST] = [BEFORE; LONGEST];
     if first <= LONGEST {
         if second <= LONGEST {
             let code = book.report(&mut positions[..first], &mut cash[..second]);
             if shown {
-                print_code(code);
-                print_list(POSITIONS, &positions, first, code != 0);
-                print_list(CASH, &cash, second, code != 0);
+                print_code(rt, code)?;
+                print_list(rt, POSITIONS, &positions, first, code != 0)?;
+                print_list(rt, CASH, &cash, second, code != 0)?;
             } else {
-                print_after(BLANK, code as u64);
+                print_after(rt, BLANK, code as u64)?;
             }
         }
     }
+    Ok(())
 }

@@ -11,9 +11,10 @@ use crate::words::{
 };
 use figures::product::Product;
 use ledger::Book;
+use std::io;
 
 // What a line asks for.
-#[derive(Drop)]
+#[derive(Clone, Copy)]
 struct Line {
     // Where the list of fields stands by which the case's book is made; at 0 where there is none. The list may be for one
     // case only.
@@ -27,7 +28,7 @@ struct Line {
 }
 
 impl Line {
-    fn case(mut self, line: &[u8]) -> Self {
+    fn case(mut self, rt: &impl Print, line: &[u8]) -> io::Result<Self> {
         let reading = reading_of(line);
         let call = part(line, reading.call, line.len());
         let called = reading_of(call);
@@ -36,14 +37,14 @@ impl Line {
         self.numbers = numbers;
         self.given = given;
         self.call = named_by(call, called.name, QUOTE);
-        text(line);
-        self
+        text(rt, line)?;
+        Ok(self)
     }
 
     // The next line, which stands from one place to another.
-    fn next(mut self, line: &[u8], from: usize, to: usize) -> Self {
+    fn next(mut self, rt: &impl Print, line: &[u8], from: usize, to: usize) -> io::Result<Self> {
         if self.call != NOTHING {
-            print_word(END_LINE);
+            print_word(rt, END_LINE)?;
             self.call = NOTHING;
             if self.once {
                 self.from = 0;
@@ -51,13 +52,13 @@ impl Line {
             }
         }
         if line.len() == 0 {
-            return self;
+            return Ok(self);
         }
         match line[0] {
             b'#' => {}
             b'-' => {
-                text(line);
-                print_word(END_LINE);
+                text(rt, line)?;
+                print_word(rt, END_LINE)?;
             }
             b'|' | b'>' => {
                 self.from = from;
@@ -65,47 +66,48 @@ impl Line {
                 self.once = line[0] == b'>';
             }
             _ => {
-                return self.case(line);
+                return self.case(rt, line);
             }
         }
-        self
+        Ok(self)
     }
 }
 
-fn products() {
+fn products(rt: &impl Print) -> io::Result<()> {
     let hundredth = Product::hundredth();
     let tenth = Product::tenth();
-    print_after(OF_SIZE, hundredth.size as u64);
-    print_after(AND, tenth.size as u64);
-    print_after(CLAMP, Product::CLAMP as u64);
-    print_after(SPREAD_LIMIT, Product::SPREAD as u64);
+    print_after(rt, OF_SIZE, hundredth.size as u64)?;
+    print_after(rt, AND, tenth.size as u64)?;
+    print_after(rt, CLAMP, Product::CLAMP as u64)?;
+    print_after(rt, SPREAD_LIMIT, Product::SPREAD as u64)
 }
 
 // Plays a call and hands the book back.
-fn played(book: Book, call: usize, n: Numbers) -> Book {
+fn played(rt: &impl Print, book: Book, call: usize, n: Numbers) -> io::Result<Book> {
     if call <= OPENING {
-        return turn(book, call, n);
+        return turn(rt, book, call, n);
     }
     if call == MINUTE_ENDS {
-        return minute_ends(book, (n.first % HALF) as u32, n.second);
+        return minute_ends(rt, book, (n.first % HALF) as u32, n.second);
     }
     match call {
-        REPORT => report(book, n.first as usize, n.second as usize, true),
-        PRODUCTS => products(),
-        _ => row(book),
+        REPORT => report(rt, book, n.first as usize, n.second as usize, true)?,
+        PRODUCTS => products(rt)?,
+        _ => row(rt, book)?,
     }
-    book
+    Ok(book)
 }
 
 // The book after a line, which finds its list of fields here.
-fn after_line(book: Book, list: &[u8], line: Line) -> Book {
+fn after_line(rt: &impl Print, book: Book, list: &[u8], line: Line) -> io::Result<Book> {
     if line.call == NOTHING {
-        return book;
+        return Ok(book);
     }
-    played(made_book(book, list, line.numbers), line.call, line.given)
+    let made = made_book(rt, book, list, line.numbers)?;
+    played(rt, made, line.call, line.given)
 }
 
-pub fn run(script: &[u8]) {
+pub fn run(rt: &impl Print, script: &[u8]) -> io::Result<()> {
     let mut book = empty(10);
     let mut line = Line {
         from: 0,
@@ -120,11 +122,12 @@ pub fn run(script: &[u8]) {
     while i < script.len() {
         let next = i + 1;
         if script[i] == b'\n' {
-            line = line.next(part(script, start, i), start, i);
-            book = after_line(book, part(script, line.from, line.to), line);
+            line = line.next(rt, part(script, start, i), start, i)?;
+            book = after_line(rt, book, part(script, line.from, line.to), line)?;
             start = next;
         }
         i = next;
     }
-    line.next(b"", 0, 0);
+    line.next(rt, b"", 0, 0)?;
+    Ok(())
 }

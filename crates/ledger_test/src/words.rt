@@ -2,6 +2,7 @@
 // where it is printed.
 use crate::numbers::{Numbers, reading_of};
 use crate::print::{number, text};
+use std::io;
 
 // The fields, in the order of fields.rt, and the calls, in the order of calls.rt. A name ends with a bar; its place is the
 // number of the field or the call.
@@ -104,7 +105,7 @@ pub fn word_at(list: &[u8], place: usize) -> &[u8] {
 fn place_in(list: &[u8], first: usize, word: &[u8]) -> usize {
     let mut place = first;
     while place < list.len() {
-        if check::same(word_at(list, place), word) {
+        if word_at(list, place) == word {
             return place;
         }
         place += 1;
@@ -117,18 +118,18 @@ pub fn named_by(s: &[u8], end: usize, first: usize) -> usize {
     place_in(&NAMES, first, part(s, 0, end))
 }
 
-pub fn print_name(field: usize) {
-    text(word_at(&NAMES, field));
+pub fn print_name(rt: &impl Print, field: usize) -> io::Result<()> {
+    text(rt, word_at(&NAMES, field))
 }
 
-pub fn print_word(word: usize) {
-    text(word_at(&TEXTS, word));
+pub fn print_word(rt: &impl Print, word: usize) -> io::Result<()> {
+    text(rt, word_at(&TEXTS, word))
 }
 
 // A number after a word.
-pub fn print_after(word: usize, n: u64) {
-    print_word(word);
-    number(n);
+pub fn print_after(rt: &impl Print, word: usize, n: u64) -> io::Result<()> {
+    print_word(rt, word)?;
+    number(rt, n)
 }
 
 // The numbers of a row's call.

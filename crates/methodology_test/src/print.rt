@@ -1,24 +1,19 @@
 // Words and numbers on standard output.
-use libc::STDOUT_FILENO;
+use std::io;
 
-pub fn text(s: &[u8]) {
-    io::write_all(STDOUT_FILENO, s);
+pub fn text(rt: &impl Print, s: &[u8]) -> io::Result<()> {
+    rt.write_all(s)
 }
 
-pub fn end_line() {
-    text(b"\n");
+pub fn end_line(rt: &impl Print) -> io::Result<()> {
+    text(rt, b"\n")
 }
 
 // A number after a blank.
-pub fn number(n: u32) {
-    text(b" ");
-    io::print_decimal(STDOUT_FILENO, n as u64);
+pub fn number(rt: &impl Print, n: u32) -> io::Result<()> {
+    print!(rt; " {n}")
 }
 
-pub fn signed(x: i64) {
-    text(b" ");
-    if x < 0 {
-        text(b"-");
-    }
-    io::print_decimal(STDOUT_FILENO, integers::magnitude(x));
+pub fn signed(rt: &impl Print, x: i64) -> io::Result<()> {
+    print!(rt; " {x}")
 }

@@ -1,5 +1,5 @@
 // The rows of the table: each is worked out by the funding crate and printed with what it is worked out from.
-ghost use Rattle.std.specs.Prelude.{◌≡◌, true, ◌+◌, ◌<◌, ◌≤◌, nat_abs};
+ghost use Rattle.std.specs.Prelude.{◌≡◌, true, ◌+◌, ◌<◌, ◌≤◌, nat_abs, IfOk};
 ghost use Rattle.prices.specs.Price.{largest_price};
 ghost use Rattle.funding.specs.Terms.{clamp};
 ghost use Rattle.prices.specs.Price.{is_price};
@@ -8,6 +8,7 @@ ghost use Rattle.funding.specs.Minute.{weighted_limit};
 use crate::print::{end_line, number, signed, text};
 use figures::product::Product;
 use integers::Tie;
+use std::io;
 
 // The valid minutes of an example so far, and their weighted sum.
 #[derive(Clone, Copy)]
@@ -36,96 +37,112 @@ fn valid_price(bid: u32, offer: u32, last: u32) -> u32 {
 }
 
 // Bid, offer, last, index; whether it is valid, its futures price, and its spread, rounded to some places.
-pub fn spread(bid: u32, offer: u32, last: u32, index: u32, places: u32, scale: u32)
+pub fn spread(
+    rt: &impl Print,
+    bid: u32,
+    offer: u32,
+    last: u32,
+    index: u32,
+    places: u32,
+    scale: u32,
+) -> io::Result<()>
     requires { (0 < bid) × (scale ≤ 10000000) }
 {
-    text(b"spread");
-    number(bid);
-    number(offer);
-    number(last);
-    number(index);
-    number(funding::within_spread(bid, offer, Product::terms()) as u32);
-    number(valid_price(bid, offer, last));
-    signed(normalized_spread(bid, offer, scale));
-    number(places);
-    end_line();
+    let is_valid = funding::within_spread(bid, offer, Product::terms());
+    text(rt, b"spread")?;
+    number(rt, bid)?;
+    number(rt, offer)?;
+    number(rt, last)?;
+    number(rt, index)?;
+    number(rt, is_valid as u32)?;
+    number(rt, valid_price(bid, offer, last))?;
+    signed(rt, normalized_spread(bid, offer, scale))?;
+    number(rt, places)?;
+    end_line(rt)
 }
 
 // Futures price and index; basis, and the basis in millionths, as document 001 prints it.
-pub fn basis(futures: u32, index: u32)
+pub fn basis(rt: &impl Print, futures: u32, index: u32) -> io::Result<()>
     requires { 0 < index }
 {
     let nano = funding::basis(futures, index);
-    text(b"basis");
-    number(futures);
-    number(index);
-    signed(nano);
-    signed(integers::half_even(nano, 1_000));
-    end_line();
+    text(rt, b"basis")?;
+    number(rt, futures)?;
+    number(rt, index)?;
+    signed(rt, nano)?;
+    signed(rt, integers::half_even(nano, 1_000))?;
+    end_line(rt)
 }
 
 // A valid minute's weight and basis.
-fn weigh(day: Weighted, futures: u32, index: u32) -> Weighted
+fn weigh(rt: &impl Print, day: Weighted, futures: u32, index: u32) -> io::Result<Weighted>
     requires { (nat_abs day.sum ≤ weighted_limit day.count) × (day.count < 10) × (is_price futures ≡ true) × (is_price index ≡ true) }
-    ensures { (nat_abs result.sum ≤ weighted_limit result.count) × (result.count ≤ day.count + 1) }
+    ensures { IfOk result (λ r. (nat_abs r.sum ≤ weighted_limit r.count) × (r.count ≤ day.count + 1)) }
 {
     let basis = funding::basis(futures, index);
     let sum = funding::accrue(day.sum, day.count, basis);
     let count = day.count + 1;
-    number(count);
-    signed(basis);
-    end_line();
-    Weighted { count, sum }
+    number(rt, count)?;
+    signed(rt, basis)?;
+    end_line(rt)?;
+    Ok(Weighted { count, sum })
 }
 
 // Bid, offer, last, index; weight and basis, both 0 where the minute is not valid.
-pub fn minute(day: Weighted, bid: u32, offer: u32, last: u32, index: u32) -> Weighted
+pub fn minute(
+    rt: &impl Print,
+    day: Weighted,
+    bid: u32,
+    offer: u32,
+    last: u32,
+    index: u32,
+) -> io::Result<Weighted>
     requires { (nat_abs day.sum ≤ weighted_limit day.count) × (day.count < 10)
         × (is_price bid ≡ true) × (is_price offer ≡ true) × (is_price last ≡ true) × (is_price index ≡ true) }
-    ensures { (nat_abs result.sum ≤ weighted_limit result.count) × (result.count ≤ day.count + 1) }
+    ensures { IfOk result (λ r. (nat_abs r.sum ≤ weighted_limit r.count) × (r.count ≤ day.count + 1)) }
 {
-    text(b"minute");
-    number(bid);
-    number(offer);
-    number(last);
-    number(index);
+    text(rt, b"minute")?;
+    number(rt, bid)?;
+    number(rt, offer)?;
+    number(rt, last)?;
+    number(rt, index)?;
     if funding::within_spread(bid, offer, Product::terms()) {
-        weigh(day, funding::futures_price(bid, offer, last), index)
+        weigh(rt, day, funding::futures_price(bid, offer, last), index)
     } else {
-        text(b" 0 0\n");
-        day
+        text(rt, b" 0 0\n")?;
+        Ok(day)
     }
 }
 
 // Valid minutes; their rate.
-pub fn rate(day: Weighted) {
-    text(b"rate");
-    number(day.count);
-    signed(settlement::rate(day.count, day.sum));
-    end_line();
+pub fn rate(rt: &impl Print, day: Weighted) -> io::Result<()> {
+    text(rt, b"rate")?;
+    number(rt, day.count)?;
+    signed(rt, settlement::rate(day.count, day.sum))?;
+    end_line(rt)
 }
 
 // Rate; the rate within the clamp.
-pub fn clamp(rate: i64) {
-    text(b"clamp");
-    signed(rate);
-    signed(settlement::clamp(rate, Product::terms()));
-    end_line();
+pub fn clamp(rt: &impl Print, rate: i64) -> io::Result<()> {
+    text(rt, b"clamp")?;
+    signed(rt, rate)?;
+    signed(rt, settlement::clamp(rate, Product::terms()))?;
+    end_line(rt)
 }
 
 // Clamped rate, price, size 1, contracts; the amount of one, and what all of them are paid, or pay where it is negative.
-pub fn amount(rate: i64, price: u32, contracts: i64)
+pub fn amount(rt: &impl Print, rate: i64, price: u32, contracts: i64) -> io::Result<()>
     requires { (nat_abs rate ≤ clamp) × (price ≤ largest_price) × (nat_abs contracts ≤ 25) }
 {
     let hundredth = Product::hundredth();
     let size = hundredth.size;
     let amount = settlement::amount(rate, price, size, Tie::Even);
-    text(b"amount");
-    signed(rate);
-    number(price);
-    number(size);
-    signed(contracts);
-    signed(amount);
-    signed(contracts * amount);
-    end_line();
+    text(rt, b"amount")?;
+    signed(rt, rate)?;
+    number(rt, price)?;
+    number(rt, size)?;
+    signed(rt, contracts)?;
+    signed(rt, amount)?;
+    signed(rt, contracts * amount)?;
+    end_line(rt)
 }

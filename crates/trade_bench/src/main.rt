@@ -4,7 +4,7 @@
 use calls::Trade;
 use figures::product::Product;
 use ledger::Book;
-use libc::STDOUT_FILENO;
+use std::io;
 
 const TRADES: u64 = 1_000_000;
 
@@ -34,8 +34,8 @@ fn play(opened: Book) -> u64 {
     accepted
 }
 
-fn main() {
+fn main(rt: HostRuntime) -> io::Result<()> {
     let opened = Book::opening(Product::hundredth().size);
-    io::print_decimal(STDOUT_FILENO, play(opened.book));
-    io::write_all(STDOUT_FILENO, b"\n");
+    let accepted = play(opened.book);
+    println!(rt; "{accepted}")
 }
