@@ -1,6 +1,7 @@
 // trade-bench: a million trades on a book that each call takes and hands back, for benchmarks/run to time. It prints how many
 // were accepted: all of them.
 #![tactic(auto)]
+
 use calls::Trade;
 use figures::product::Product;
 use ledger::Book;
@@ -23,13 +24,10 @@ fn trade_at(place: u64) -> Trade {
 fn play(opened: Book) -> u64 {
     let mut book = opened;
     let mut accepted: u64 = 0;
-    let mut place: u64 = 0;
-    while place < TRADES {
+    for place in 0..TRADES {
         let answer = book.trade(trade_at(place));
         accepted += (answer.code == 0) as u64;
-        let after = answer.book;
-        book = after;
-        place += 1;
+        book = answer.book;
     }
     accepted
 }
