@@ -1,4 +1,4 @@
-// The run of a fresh book over a day file, for programs in C.
+// The run of a fresh book over a day file, reported to two lists.
 #![tactic(auto)]
 ghost use Rattle.std.specs.Prelude.{◌≡◌, length};
 ghost use Rattle.host.specs.Run.{accepted_records, reported_positions, reported_cash, FromBytes};
@@ -10,8 +10,7 @@ use records::run;
 
 // Runs a fresh book of this size over a file, reports it to both lists and answers how many records were accepted. Where the
 // size or a list is refused it answers 0 and leaves both lists as they are.
-#[unsafe(no_mangle)]
-pub extern "C" fn funding_run(size: u8, file: &[u8], positions: &mut [i64], cash: &mut [i64]) -> u64
+pub fn funding_run(size: u8, file: &[u8], positions: &mut [i64], cash: &mut [i64]) -> u64
     ensures number { result
         ≡ accepted_records size file.now (length positions.old) (length cash.old) }
     ensures positions { positions.new

@@ -2,16 +2,15 @@
 --     refused-short, day-short      those of a refusal and of a fix
 --     account-short, accounts-short      those of one and of all accounts
 -- Assumes nothing.
-use mathlib.Core.Path.{◌≡◌}
-use mathlib.Core.List.{List, []}
-use Prim.Native.Nat.{ℕ, zero, suc, ◌+◌, ◌*◌, ◌≤◌}
+use mathlib.Core.List.{List}
+use Prim.Native.Nat.{ℕ, zero, suc, ◌*◌, ◌≤◌}
 use native.Mathlib.Omega.{arith}
 use lib.IntN.{ℤ}
 use lib.ListN.{length, length-append}
 use Rattle.integers.proofs.Tests.{by_test}
 use Rattle.text.proofs.Lengths.{decimal_short, signed_short}
 use Rattle.figures.specs.declared.Fixing.{Fixing}
-use Rattle.columns.specs.Columns.{accounts, entry}
+use Rattle.columns.specs.Columns.{entry}
 use Rattle.lines.specs.Lines.{refused_line, day_line, account_line, is_printed, printed_account, account_lines}
 
 abbrev pub longest_account : ℕ

@@ -1,5 +1,6 @@
 // The lines of the printout, put into a part of a buffer.
 #![tactic(auto)]
+
 ghost use Rattle.std.specs.Prelude.{◌≡◌, length};
 ghost use Rattle.text.specs.Text.{Put};
 ghost use Rattle.columns.specs.Columns.{accounts};

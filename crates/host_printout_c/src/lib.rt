@@ -1,0 +1,15 @@
+// The printout of crate host_printout, for programs in C. It is compiled apart from the run, of which the compiler then makes one
+// function.
+#![tactic(auto)]
+ghost use Rattle.std.specs.Prelude.{◌≡◌, length, drop};
+ghost use Rattle.text.specs.Text.{over};
+ghost use Rattle.printout.specs.Printout.{printout};
+
+// As `host_printout::funding_printout`. A buffer in C is a pointer and a length (include/funding.h).
+#[unsafe(no_mangle)]
+pub extern "C" fn funding_printout(input: &[u8], from: usize, out: &mut [u8]) -> usize
+    ensures length { result ≡ length (printout input.now) }
+    ensures text { out.new ≡ over (drop from (printout input.now)) out.old }
+{
+    host_printout::funding_printout(input, from, out)
+}
