@@ -66,11 +66,9 @@ fn change(
 // Whether two books differ. Where it is to be shown, each number that differs is printed with its value in the second.
 pub fn changes(rt: &impl Print, before: &Book, after: &Book, shown: bool) -> io::Result<bool> {
     let mut changed: usize = 0;
-    let mut i: usize = 0;
-    while i < NUMBERS {
+    for i in 0..NUMBERS {
         let earlier = number_at(before, i);
         changed = change(rt, i, changed, earlier, number_at(after, i), shown)?;
-        i += 1;
     }
     Ok(changed != 0)
 }

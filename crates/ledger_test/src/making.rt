@@ -62,14 +62,12 @@ pub fn made_book(rt: &impl Print, book: Book, list: &[u8], case: Numbers) -> io:
         account: 0,
         used: 0,
     };
-    let mut place: usize = 1;
-    while place < list.len() {
+    for place in 1..list.len() {
         let text = word_at(list, place);
         if text.len() != 0 {
             item = item.next(rt, text, case)?;
             after = with_value(after, item.account, item.field, item.number);
         }
-        place += 1;
     }
     Ok(after)
 }

@@ -138,10 +138,8 @@ pub fn reading_of(s: &[u8]) -> Reading {
         bid: 0,
         negative: false,
     };
-    let mut i: usize = 0;
-    while i < s.len() {
-        reading = reading.after(s[i], i);
-        i += 1;
+    for (i, byte) in s.iter().enumerate() {
+        reading = reading.after(*byte, i);
     }
-    reading.ended(i)
+    reading.ended(s.len())
 }

@@ -20,14 +20,11 @@ fn print_list(
 ) -> io::Result<()> {
     print_word(rt, name)?;
     let usual = if refused { BEFORE } else { 0 };
-    let mut i: usize = 0;
-    while i < LONGEST {
-        let entry = list[i];
-        if (i < length) & (entry != usual) {
+    for (i, entry) in list.iter().enumerate() {
+        if (i < length) & (*entry != usual) {
             print_after(rt, BLANK, i as u64)?;
-            print_after(rt, EQUALS, of_signed(entry))?;
+            print_after(rt, EQUALS, of_signed(*entry))?;
         }
-        i += 1;
     }
     if refused {
         print_word(rt, UNCHANGED)?;

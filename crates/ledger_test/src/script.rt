@@ -118,15 +118,12 @@ pub fn run(rt: &impl Print, script: &[u8]) -> io::Result<()> {
         given: Numbers::none(),
     };
     let mut start: usize = 0;
-    let mut i: usize = 0;
-    while i < script.len() {
-        let next = i + 1;
-        if script[i] == b'\n' {
+    for (i, byte) in script.iter().enumerate() {
+        if *byte == b'\n' {
             line = line.next(rt, part(script, start, i), start, i)?;
             book = after_line(rt, book, part(script, line.from, line.to), line)?;
-            start = next;
+            start = i + 1;
         }
-        i = next;
     }
     line.next(rt, b"", 0, 0)?;
     Ok(())

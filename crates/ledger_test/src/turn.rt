@@ -67,10 +67,8 @@ fn entry(rt: &impl Print, book: Book, call: usize, n: Numbers) -> io::Result<boo
 pub fn row(rt: &impl Print, book: Book) -> io::Result<()> {
     print_word(rt, CODES)?;
     let mut changed = false;
-    let mut i: usize = 0;
-    while i <= DAY_LENGTH - QUOTE {
+    for i in 0..=DAY_LENGTH - QUOTE {
         changed = entry(rt, book, QUOTE + i, row_numbers(i))? | changed;
-        i += 1;
     }
     report(rt, book, ACCOUNTS, ACCOUNTS, false)?;
     print_changed(rt, changed)
@@ -79,11 +77,9 @@ pub fn row(rt: &impl Print, book: Book) -> io::Result<()> {
 // Ends many minutes with one index, and prints what they changed.
 pub fn minute_ends(rt: &impl Print, book: Book, index: u32, count: u64) -> io::Result<Book> {
     let mut after = book;
-    let mut i: u64 = 0;
-    while i < count {
+    for _ in 0..count {
         let answer = after.minute_end(index);
         after = answer.book;
-        i += 1;
     }
     changes(rt, &book, &after, true)?;
     Ok(after)

@@ -87,30 +87,26 @@ pub fn part(s: &[u8], from: usize, to: usize) -> &[u8] {
 pub fn word_at(list: &[u8], place: usize) -> &[u8] {
     let mut left = place;
     let mut start: usize = 0;
-    let mut i: usize = 0;
-    while i < list.len() {
-        if list[i] == b'|' {
+    for (i, byte) in list.iter().enumerate() {
+        if *byte == b'|' {
             if left == 0 {
                 return part(list, start, i);
             }
             left -= 1;
             start = i + 1;
         }
-        i += 1;
     }
     &list[..0]
 }
 
 // The place of a word in a list, from a place on; the list's length where it isn't there.
 fn place_in(list: &[u8], first: usize, word: &[u8]) -> usize {
-    let mut place = first;
-    while place < list.len() {
+    for place in first..list.len() {
         if word_at(list, place) == word {
             return place;
         }
-        place += 1;
     }
-    place
+    list.len()
 }
 
 // The number of the field or the call whose name a text begins with, up to this place; from a number on.
