@@ -3,9 +3,11 @@
 --     records-short        and those of all records of a file
 --     kept                 a record leaves a book within its limits
 --     further              the record after this one starts further on in the file
+--     lines_left           the lines from a place on
+--     played_within, played_lines      a record that was played leaves a book within its limits, and its lines stand before those that follow
 --     lines_next, no_lines      the lines from a place on: those of the record there before those that follow, and none at the file's end
 -- Assumes nothing.
-use mathlib.Core.Path.{◌≡◌, refl, sym, ◌∙◌, ap}
+use mathlib.Core.Path.{◌≡◌, sym, ◌∙◌, ap, subst}
 use mathlib.Core.List.{List, [], ◌∷◌, ◌++◌}
 use Prim.Native.Nat.{ℕ, zero, suc, ◌+◌, ◌*◌, ◌<◌, ◌≤◌}
 use native.Mathlib.Omega.{arith}
@@ -25,7 +27,7 @@ use Rattle.dayfile.proofs.Forward.{forward_to}
 use Rattle.dayfile.proofs.Calls.{records_at}
 use Rattle.playing.specs.declared.Printed.{Printed}
 use Rattle.playing.specs.declared.Printed.TheVariants as printed
-use Rattle.playing.specs.Printed.{played_record}
+use Rattle.playing.specs.Printed.{AfterRecord, played_record}
 use Rattle.printout.specs.Printout.{Lines, text_of, before, after_read, after_records}
 
 abbrev pub longest_text : ℕ
@@ -96,3 +98,18 @@ lines_next b place file at read.CutOff e =
 lines_next b place file at (read.Known next c) e = ap (after_records b place) (records_at file at (read.Known next c) e)
 lines_next b place file at (read.WrongLength next) e = ap (after_records b place) (records_at file at (read.WrongLength next) e)
 lines_next b place file at (read.Unknown next) e = ap (after_records b place) (records_at file at (read.Unknown next) e)
+
+abbrev pub lines_left : List ℕ → Book → ℕ → ℕ → List ℕ
+lines_left file b start place = (after_records b place (records_from file start)).text
+
+pub played_within : (b : Book) (r : Read) (place : ℕ) {a : AfterRecord} → a ≡ played_record b r place → WithinLimits accounts b → WithinLimits accounts a.book
+played_within b r place e w = subst (λ (a : AfterRecord). WithinLimits accounts a.book) (sym e) (kept b r place w)
+
+pub played_lines :
+    (file : List ℕ) (b : Book) (start place : ℕ) (r : Read) {a : AfterRecord} {next : ℕ} → read_at file start ≡ r → a ≡ played_record b r place → next ≡ after_read r (length file)
+    → text_of a.printed a.book.position a.book.cash ++ lines_left file a.book next (place + 1) ≡ lines_left file b start place
+played_lines file b start place r {a} {next} read_is played after =
+    let p = played_record b r place in
+    ap (λ (a : AfterRecord). text_of a.printed a.book.position a.book.cash ++ lines_left file a.book next (place + 1)) played
+    ∙ ap (λ (n : ℕ). text_of p.printed p.book.position p.book.cash ++ lines_left file p.book n (place + 1)) after
+    ∙ sym (ap (λ (l : Lines). l.text) (lines_next b place file start r read_is))

@@ -1,5 +1,6 @@
 // The whole printout of `funding-bench`, from the bytes of its input to the bytes of its text.
 #![tactic(auto)]
+
 ghost use Rattle.std.specs.Prelude.{◌≡◌, ◌≤◌, length, drop};
 ghost use Rattle.text.specs.Text.{Put, over};
 ghost use Rattle.lines.specs.Lines.{RoomForLines};
