@@ -1,6 +1,7 @@
 // funding-bench: reads a size and records from standard input and prints what they do. All that it prints is crate printout's; here
 // it is written out, a part of it at a time.
 #![tactic(auto)]
+
 use libc::{STDIN_FILENO, STDOUT_FILENO};
 
 // Writes the printout of an input. Each part is made anew from the input, so that a printout of any length goes through one

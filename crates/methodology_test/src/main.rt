@@ -1,6 +1,7 @@
 // Replays document 001's examples. The printout is worked out by hand: its lines are the rows of
 // tests/methodology/table.txt, against which the reference is tested, in that file's order.
 #![tactic(auto)]
+
 mod print;
 mod rows;
 

@@ -1,6 +1,7 @@
 // trade-bench: a million trades on a book that each call takes and hands back, for benchmarks/run to time. It prints how many
 // were accepted: all of them.
 #![tactic(auto)]
+
 use calls::Trade;
 use figures::product::Product;
 use ledger::Book;
