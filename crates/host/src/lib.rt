@@ -1,5 +1,6 @@
 // The run of a fresh book over a day file, reported to two lists.
 #![tactic(auto)]
+
 ghost use Rattle.std.specs.Prelude.{◌≡◌, length};
 ghost use Rattle.host.specs.Run.{accepted_records, reported_positions, reported_cash, FromBytes};
 

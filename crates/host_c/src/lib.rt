@@ -1,5 +1,6 @@
 // The run of crate host, for programs in C.
 #![tactic(auto)]
+
 ghost use Rattle.std.specs.Prelude.{◌≡◌, length};
 ghost use Rattle.host.specs.Run.{accepted_records, reported_positions, reported_cash, FromBytes};
 

@@ -1,5 +1,6 @@
 // The printout of an input, a part of it at a time.
 #![tactic(auto)]
+
 ghost use Rattle.std.specs.Prelude.{◌≡◌, length, drop};
 ghost use Rattle.text.specs.Text.{over};
 ghost use Rattle.printout.specs.Printout.{printout};

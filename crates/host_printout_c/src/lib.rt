@@ -1,6 +1,7 @@
 // The printout of crate host_printout, for programs in C. It is compiled apart from the run, of which the compiler then makes one
 // function.
 #![tactic(auto)]
+
 ghost use Rattle.std.specs.Prelude.{◌≡◌, length, drop};
 ghost use Rattle.text.specs.Text.{over};
 ghost use Rattle.printout.specs.Printout.{printout};

@@ -1,5 +1,6 @@
 // The tags of records, and the bytes of their bodies.
 #![tactic(auto)]
+
 ghost use Rattle.std.specs.Prelude.{◌≡◌};
 ghost use Rattle.tags.specs.Tags.{byte_of, tag_of, body_length};
 
