@@ -22,7 +22,7 @@ test:
 	.ci/run
 
 program:
-	rt check funding_bench
+	tests/build-program funding_bench
 
 daytext:
 	cargo build --quiet --release --package daytext
