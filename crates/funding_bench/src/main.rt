@@ -2,16 +2,16 @@
 // it is written out, a part of it at a time.
 #![tactic(auto)]
 
-ghost use Rattle.std.specs.Prelude.{OnOk, IfSome};
+ghost use Rattle.std.specs.Prelude.{◌≡◌, ◌≢◌, ◌≤◌, length, take, IfOk, IfErr, OnOk, IfSome};
 ghost use Rattle.std.specs.Io.KnownBytes.{Appends};
+ghost use Rattle.std.specs.IoError.{error_kind};
 ghost use Rattle.printout.specs.Printout.{printout};
 
-use std::alloc::Global;
 use std::io;
-use std::io::{Read, Write};
+use std::io::{ErrorKind, Read, Write};
 
 // The bytes of an input that count.
-const MOST_INPUT: u64 = 65_536;
+const MOST_INPUT: usize = 65_536;
 
 // Writes the printout of an input. Each part is made anew from the input, so that a printout of any length goes through one
 // buffer; most fit it whole.
@@ -31,18 +31,41 @@ fn print<W: Write>(out: &mut W, input: &[u8]) -> io::Result<()>
     }
 }
 
+// Reads until the buffer is full or the reader has no more, and answers how many bytes it read. A read that a signal broke off is
+// tried again. The turns are counted because each loop must end.
+fn read_full<R: Read>(reader: &mut R, buffer: &mut [u8]) -> io::Result<usize>
+    ensures within { IfOk result (λ n. n ≤ length buffer.new) }
+    ensures retried { IfErr result (λ e. error_kind e ≢ ErrorKind.Interrupted) }
+    ensures bytes { IfSome (R.remaining reader.old) (λ bytes. IfOk result (λ n.
+        take n buffer.new ≡ take (length buffer.new) bytes)) }
+{
+    let mut at: usize = 0;
+    for _ in 0..u64::MAX {
+        if at == buffer.len() {
+            return Ok(at);
+        }
+        match reader.read(&mut buffer[at..]) {
+            Ok(0) => return Ok(at),
+            Ok(n) => at += n,
+            Err(e) if e.kind() == ErrorKind::Interrupted => {}
+            Err(e) => return Err(e),
+        }
+    }
+    Err(io::Error::from(ErrorKind::TimedOut))
+}
+
 // Writes the printout of what a reader has.
-fn run<R: Read, W: Write>(alloc: Global, reader: R, out: &mut W) -> io::Result<()>
+fn run<R: Read, W: Write>(mut reader: R, out: &mut W) -> io::Result<()>
 where
     R: Drop,
     ensures { OnOk result (IfSome (R.remaining reader) (λ bytes.
         Appends (W.contents out.old) (W.contents out.new) (printout bytes))) }
 {
-    let mut input = Vec::new(alloc);
-    reader.take(MOST_INPUT).read_to_end(&mut input)?;
-    print(out, &input)
+    let mut input = [0u8; MOST_INPUT];
+    let length = read_full(&mut reader, &mut input)?;
+    print(out, &input[..length])
 }
 
 fn main(rt: HostRuntime) -> io::Result<()> {
-    run(rt.alloc(), rt.stdin(), &mut io::writer(&rt))
+    run(rt.stdin(), &mut io::writer(&rt))
 }

@@ -2,6 +2,8 @@
 // which says how they are written; the stored printout is worked out by hand from documents 01 and 02.
 #![tactic(auto)]
 
+ghost use Rattle.std.specs.Prelude.{◌≤◌, length, IfOk};
+
 mod books;
 mod changes;
 mod fields;
@@ -15,16 +17,36 @@ mod turn;
 mod words;
 
 use std::io;
-use std::io::Read;
+use std::io::{ErrorKind, Read};
 
 // The bytes of the cases that are read.
 const MOST_INPUT: usize = 65_536;
 
+// Reads until the buffer is full or the reader has no more, and answers how many bytes it read. A read that a signal broke off is
+// tried again. The turns are counted because each loop must end.
+fn read_full<R: Read>(reader: &mut R, buffer: &mut [u8]) -> io::Result<usize>
+    ensures { IfOk result (λ n. n ≤ length buffer.new) }
+{
+    let mut at: usize = 0;
+    for _ in 0..u64::MAX {
+        if at == buffer.len() {
+            return Ok(at);
+        }
+        match reader.read(&mut buffer[at..]) {
+            Ok(0) => return Ok(at),
+            Ok(n) => at += n,
+            Err(e) if e.kind() == ErrorKind::Interrupted => {}
+            Err(e) => return Err(e),
+        }
+    }
+    Err(io::Error::from(ErrorKind::TimedOut))
+}
+
 fn main(rt: HostRuntime) -> io::Result<()> {
-    let mut input = Vec::new(rt.alloc());
-    rt.stdin().take(MOST_INPUT as u64).read_to_end(&mut input)?;
-    script::run(&rt, &input)?;
-    if input.len() == MOST_INPUT {
+    let mut input = [0u8; MOST_INPUT];
+    let length = read_full(&mut rt.stdin(), &mut input)?;
+    script::run(&rt, &input[..length])?;
+    if length == MOST_INPUT {
         print::text(&rt, b"the cases are cut off\n")?;
     }
     Ok(())
