@@ -1,6 +1,6 @@
 -- A call is of one kind, or what is said of that kind alone gives its `other`.
---     trade-or, fix-or, close-or      for trades, fixes and closes
---     on-trade-is, on-close-is        what holds of both results of `on_trade` or `on_close` holds of its result
+--     trade_or, fix_or, close_or      for trades, fixes and closes
+--     on_trade_is, on_close_is        what holds of both results of `on_trade` or `on_close` holds of its result
 -- Assumes nothing.
 use mathlib.Core.Path.{◌≡◌, refl, sym, subst}
 use Prim.Native.Nat.{ℕ}

@@ -1,4 +1,4 @@
--- What a close posts to an account is within its limit: posting-size. Assumes nothing.
+-- What a close posts to an account is within its limit: posting_size. Assumes nothing.
 use Prim.Native.Nat.{◌*◌, ◌+◌, ◌≤◌}
 use native.Mathlib.Omega.{arith}
 use lib.IntN.{◌*ℤ◌, ◌-ℤ◌, nat_abs, pos, ℤ}

@@ -1,9 +1,9 @@
 -- Columns of numbers: what is said of every account, sums over the accounts, and a column's entries.
---     all-at, all-by     what holds of every account holds of each, and conversely
---     all-not            what doesn't hold of one account
---     sum-most           a sum of numbers with a bound
---     sum-raised         the sum over a column with one entry raised
---     table-length, table_at     a table's length and entries
+--     all_at, all_by     what holds of every account holds of each, and conversely
+--     all_not            what doesn't hold of one account
+--     sum_most           a sum of numbers with a bound
+--     sum_raised         the sum over a column with one entry raised
+--     table_length, table_at     a table's length and entries
 -- Assumes nothing.
 use mathlib.Core.Path.{◌≡◌, refl, sym, ◌∙◌, ap, subst}
 use mathlib.Core.Bool.{Bool, true, false, ◌&&◌, true≢false}

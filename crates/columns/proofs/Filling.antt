@@ -1,6 +1,6 @@
 -- A column that a loop fills from its first entry on.
 --     filling i f l     the column l with its first i entries given by f
---     fill-next         one more entry;  fill-read  the next one is as it was;  fill_end  all of them
+--     fill_next         one more entry;  fill_read  the next one is as it was;  fill_end  all of them
 --     table_of          a column is the table of its entries
 -- Assumes nothing.
 use mathlib.Core.Path.{◌≡◌, refl, sym, ◌∙◌, ap}

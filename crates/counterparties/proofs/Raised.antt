@@ -1,8 +1,8 @@
 -- Entries of a column after one or two of them are raised.
---     entry-raised, count-raised     how far an entry rises where one is raised
---     buyer-entry, seller-entry, buyer-count, seller-count     those of a trade's two accounts, which may be one
---     untouched      those of the other accounts;  of-each  what holds of all three holds of each
---     cost-raised    a cost within its contracts at the largest price stays so
+--     entry_raised, count_raised     how far an entry rises where one is raised
+--     buyer_entry, seller_entry, buyer_count, seller_count     those of a trade's two accounts, which may be one
+--     untouched      those of the other accounts;  of_each  what holds of all three holds of each
+--     cost_raised    a cost within its contracts at the largest price stays so
 -- Assumes nothing.
 use mathlib.Core.Path.{◌≡◌, refl, sym, ◌∙◌, ap, subst}
 use mathlib.Core.Bool.{Bool, true, false, cond}

@@ -1,8 +1,8 @@
 -- What a day within its limits holds, as facts that `omega` reads, and back: a day that holds no more is within its limits.
---     held-day, day-holds         likewise for a final minute
---     empty-day                   a new day
---     day-most                    its minutes
---     held-market                 a market's sides
+--     held_day, day_holds-held         likewise for a final minute
+--     empty_day-held                   a new day
+--     day_most                    its minutes
+--     held_market                 a market's sides
 -- Assumes nothing.
 use mathlib.Core.Path.{◌≡◌, refl}
 use mathlib.Core.Bool.{true, ◌&&◌, ◌||◌}

@@ -1,9 +1,9 @@
 -- What a call leaves of a day within its limits, by the parts of the day.
---     markets-hold, as-minute     the markets
---     with-length                 a length of day, before the date has begun
---     trade-fields                what refusal 5 leaves of a trade's values
+--     markets_hold-each, minute_market_holds-as_minute     the markets
+--     held-with_length                 a length of day, before the date has begun
+--     trade_fields                what refusal 5 leaves of a trade's values
 --     accrues                     what the weighted sum of a valid minute requires
---     minute-ended                a minute's end, with which the date has begun
+--     held-minute_ended                a minute's end, with which the date has begun
 -- Assumes nothing.
 use mathlib.Core.Path.{◌≡◌, refl, ap}
 use mathlib.Core.Bool.{Bool, true, false, not, cond, ◌&&◌, ◌||◌}

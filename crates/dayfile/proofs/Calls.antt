@@ -1,8 +1,8 @@
 -- What a file holds from a place on, by what is read there.
---     records-at          its records: what is read and, unless that ends the run, those from the next place on
---     calls-at-end, calls-at-cut-off          no call
---     calls-at-known          the record's call, and those from the next place on
---     calls-at-wrong-length, calls-at-unknown          those from the next place on
+--     records_at          its records: what is read and, unless that ends the run, those from the next place on
+--     calls_at_end, calls_at_cut_off          no call
+--     calls_at_known          the record's call, and those from the next place on
+--     calls_at_wrong_length, calls_at_unknown          those from the next place on
 -- Assumes nothing.
 use Prim.Native.Nat.{ℕ, zero, suc, ◌+◌, ◌≤◌}
 use mathlib.Core.Path.{◌≡◌, refl, sym, ◌∙◌, ap}

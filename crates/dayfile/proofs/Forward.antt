@@ -1,6 +1,6 @@
 -- The reader goes forward and stays within the file.
 --     forward        at every place, whatever is read there
---     forward-to     the same of what is known to be read at a place
+--     forward_to     the same of what is known to be read at a place
 -- Assumes nothing.
 use Prim.Native.Nat.{ℕ, ◌≤◌}
 use mathlib.Core.Path.{◌≡◌, subst}

@@ -1,9 +1,9 @@
 -- What stands at a place of a file.
---     at-end      nothing, at the file's end or past it
+--     at_end      nothing, at the file's end or past it
 --     cut_off     a record that ends past the file's end
 --     whole       a complete record
---     right-length, wrong-length     a complete record of a known tag
---     record-at, known_at     a record at a place is complete, and is read as its call
+--     right_length, wrong_length     a complete record of a known tag
+--     record_at, known_at     a record at a place is complete, and is read as its call
 --     number_at   the number of what is read is that of the bytes
 -- Assumes nothing.
 use Prim.Native.Nat.{ℕ, zero, suc, ◌+◌, ◌≤◌, ◌<◌}

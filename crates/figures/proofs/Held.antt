@@ -1,6 +1,6 @@
 -- What figures within their limits hold, as facts that `omega` reads, and back: figures that hold no more are within their limits.
---     held-figures, figures-hold     both ways
---     size-most                      the size
+--     held_figures, figures_hold-held     both ways
+--     size_most                      the size
 -- Assumes nothing.
 use mathlib.Core.Path.{◌≡◌}
 use mathlib.Core.Bool.{true}

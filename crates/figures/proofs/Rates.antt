@@ -1,5 +1,5 @@
 -- The size of the rate that a fix finds.
---     rate-size     at most the clamp
+--     rate_size     at most the clamp
 -- Assumes nothing.
 use Prim.Native.Nat.{◌≤◌}
 use native.Mathlib.Omega.{arith}

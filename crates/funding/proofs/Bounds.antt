@@ -1,6 +1,6 @@
 -- How large a minute's figures get, for the limits of a book.
---     basis-size, accrued-size     its basis, and the weighted sum with it
---     futures-is-price             its futures price
+--     basis_size, accrued_size     its basis, and the weighted sum with it
+--     futures_is_price             its futures price
 -- Assumes nothing.
 use mathlib.Core.Path.{◌≡◌}
 use mathlib.Core.Bool.{true, ◌&&◌}

@@ -1,13 +1,13 @@
 -- A text that is written through a buffer, a part of it at a time, and the bytes that are read of an input.
 --     last_part, next_part    a writer that holds the text up to a place holds more of it after the next part, and all of it after the last
---     read_more, read_failed  the front of a buffer is what a reader gave, and is so after one more read and after one that fails
+--     read_more               the front of a buffer is what a reader gave, and is so after one more read
 --     from_counted            what holds of the bytes that count, where those were read
 -- Assumes nothing.
 use Rattle.std.proofs.Common.{◌≡◌, ℕ, ◌+◌, ◌-◌, ◌≤◌, List, [], ◌∷◌, length, take, drop, Option, None, Some, IfSome, refl, sym, ap, ◌∙◌, subst, take-take, take-add, take-append-drop, length-drop, length-take-le, ◌++◌, arith}
-use Rattle.std.specs.Io.KnownBytes.{Appends, Consumes, Keeps}
-use Rattle.std.proofs.KnownBytes.{Appends-trans, Consumes-trans, Consumes-kept}
+use Rattle.std.specs.Io.KnownBytes.{Appends, Consumes}
+use Rattle.std.proofs.KnownBytes.{Appends-trans, Consumes-trans}
 use Rattle.std.proofs.Math.Seq.{take-append-add, take-append-le}
-use borrow.Rule.Slice.PartMut.{put_mid, post_of, take_put}
+use borrow.Rule.Slice.PartMut.{put_mid, post_of}
 use Rattle.text.specs.Text.{over}
 
 all_over : (text out : List ℕ) → length text ≤ length out → take (length text) (over text out) ≡ text
@@ -45,9 +45,6 @@ module _ (a b c : Option (List ℕ)) (buffer part : List ℕ) (at room : ℕ) (b
       let more : take to (put_mid at room buffer part) ≡ front ++ take n part =
       ap (λ k. take k (put_mid at room buffer part)) long ∙ take-append-add front (part ++ rest) n ∙ ap (λ xs. front ++ xs) (take-append-le n part rest h) in
       subst (Consumes a c) (sym more) (Consumes-trans a b c front (take n part) before p)
-
-  pub read_failed : (to : ℕ) → to ≡ at → Keeps b c → Consumes a c (take to (put_mid at room buffer part))
-  read_failed to e p = subst (Consumes a c) (sym (ap (λ k. take k (put_mid at room buffer part)) e ∙ take_put at room buffer part within)) (Consumes-kept a b c (take at buffer) before p)
 
 pub from_counted : (most long : ℕ) (known : Option (List ℕ)) (input : List ℕ) (P : List ℕ → Type 0)
     → long ≡ most → IfSome known (λ xs. input ≡ take long xs) → P (take most input) → IfSome known (λ xs. P (take most xs))

@@ -2,13 +2,12 @@
 // it is written out, a part of it at a time.
 #![tactic(auto)]
 
-ghost use Rattle.std.specs.Prelude.{◌≡◌, ◌≢◌, ◌≤◌, length, take, IfOk, IfErr, OnOk, IfSome};
+ghost use Rattle.std.specs.Prelude.{◌≡◌, ◌≤◌, length, take, IfOk, OnOk, IfSome};
 ghost use Rattle.std.specs.Io.KnownBytes.{Appends};
-ghost use Rattle.std.specs.IoError.{error_kind};
 ghost use Rattle.printout.specs.Printout.{printout};
 
 use std::io;
-use std::io::{ErrorKind, Read, Write};
+use std::io::{Read, Write};
 
 // The bytes of an input that count.
 const MOST_INPUT: usize = 65_536;
@@ -31,27 +30,21 @@ fn print<W: Write>(out: &mut W, input: &[u8]) -> io::Result<()>
     }
 }
 
-// Reads until the buffer is full or the reader has no more, and answers how many bytes it read. A read that a signal broke off is
-// tried again. The turns are counted because each loop must end.
+// Reads until the buffer is full or the reader has no more, and answers how many bytes it read.
 fn read_full<R: Read>(reader: &mut R, buffer: &mut [u8]) -> io::Result<usize>
     ensures within { IfOk result (λ n. n ≤ length buffer.new) }
-    ensures retried { IfErr result (λ e. error_kind e ≢ ErrorKind.Interrupted) }
     ensures bytes { IfSome (R.remaining reader.old) (λ bytes. IfOk result (λ n.
         take n buffer.new ≡ take (length buffer.new) bytes)) }
 {
     let mut at: usize = 0;
-    for _ in 0..u64::MAX {
-        if at == buffer.len() {
+    while at < buffer.len() {
+        let n = reader.read(&mut buffer[at..])?;
+        if n == 0 {
             return Ok(at);
         }
-        match reader.read(&mut buffer[at..]) {
-            Ok(0) => return Ok(at),
-            Ok(n) => at += n,
-            Err(e) if e.kind() == ErrorKind::Interrupted => {}
-            Err(e) => return Err(e),
-        }
+        at += n;
     }
-    Err(io::Error::from(ErrorKind::TimedOut))
+    Ok(at)
 }
 
 // Writes the printout of what a reader has.

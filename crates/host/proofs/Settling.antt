@@ -1,5 +1,5 @@
 -- What a run over a file comes to, by demand 3.
---     ended-within      the book where a run ended is within its limits
+--     ended_within      the book where a run ended is within its limits
 --     settled           the book where the run ended has the figures of the history of the file's calls
 -- Assumes nothing.
 use mathlib.Core.Path.{◌≡◌}

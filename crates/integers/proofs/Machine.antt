@@ -1,11 +1,11 @@
 -- What the needs and the tests of signed arithmetic at 64 bits come down to.
---     bits_pos, bits-nz      a divisor's bits are not 0
+--     bits_pos, bits_nz      a divisor's bits are not 0
 --     quot-…, rem-…          sizes and signs of the machine's quotient and remainder, and that they make up the dividend
---     quot_fits, rem-fits    neither wraps where the divisor is positive
+--     quot_fits, rem_fits    neither wraps where the divisor is positive
 --     complement             `!x` of a negative number is its size less one
---     below-zero             what a test `x < 0` shows
---     as-unsigned            what a cast to an unsigned type requires
---     read-back              a number is what its bits are read as
+--     below_zero             what a test `x < 0` shows
+--     as_unsigned            what a cast to an unsigned type requires
+--     read_back              a number is what its bits are read as
 --     positive               a number above 0 that was cast to a signed type is above 0
 -- Assumes nothing.
 use mathlib.Core.Path.{◌≡◌, refl, sym, ◌∙◌, ap}

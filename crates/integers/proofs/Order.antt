@@ -1,7 +1,7 @@
 -- The order of ℤ, sizes (`nat_abs`) and fits, each tied to `up` and `dn`, so that `omega` decides them.
 --     ints       `omega ints` reads `x ≤ℤ y`, `x <ℤ y`, `x ≡ y` and `SFits w64 z` in reach as facts of `up` and `dn`, and proves the first three and `SFits w64 z`
 --     size z     nat_abs z is up z + dn z; `apart z`: one of the two is 0
---     not-above, not-below, between     the tests of a limit
+--     not_above, not_below, between     the tests of a limit
 -- Assumes nothing.
 use mathlib.Core.Path.{◌≡◌, refl, sym, ◌∙◌, ap, subst}
 use mathlib.Core.Bool.{Bool, true, false, ◌&&◌, and-true}

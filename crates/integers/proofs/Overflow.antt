@@ -6,7 +6,7 @@
 --     safe W e tt    the last operation of e fits: a need `add-..`, `sub-..`, `mul-..`
 --     runs W e tt     what the machine reads back of e is its value: a `returns`
 --     sized W e       nat_abs of the value is within the bound
---     test-lt W a b tt, test-le, test-eq, test-ne     a test's fact, of the values
+--     test_lt W a b tt, test_le, test_eq, test_ne     a test's fact, of the values
 --     casts W e tt p  a need `cast-..` to u64, of a value that is not negative
 --     folds W e tt    `rw` by it makes of a computed value a slot of its own, with a better bound
 -- Assumes nothing.

@@ -1,5 +1,5 @@
 -- A ring solver for ℤ, by reflection: two expressions are equal at every integer if their difference normalises to the empty polynomial, which `refl` shows.
---     ring-at ρ a b refl : eval ρ a ≡ eval ρ b
+--     ring_at ρ a b refl : eval ρ a ≡ eval ρ b
 --     ring 3 (λ x y z. ..) (λ x y z. ..) refl : (x y z : ℤ) → .. ≡ ..
 -- Coefficients are native numbers, so their size costs nothing. Assumes nothing.
 use mathlib.Core.Path.{◌≡◌, refl, sym, ◌∙◌, ap, ap₂}

@@ -1,6 +1,6 @@
 -- Rounding to the nearest whole number, from the machine's quotient and remainder.
 --     characterised     `rounded` is nearest, a tie going where its rule says, and nothing else is
---     nearest-le, nearest-ge, rounded-le     a whole number that bounds x / d bounds what it is rounded to
+--     nearest_le, nearest_ge, rounded_le     a whole number that bounds x / d bounds what it is rounded to
 --     stays, goes_on     the quotient, or its neighbour, is `rounded` by how the remainder stands to what it leaves of the divisor
 -- Assumes nothing.
 use mathlib.Core.Path.{◌≡◌, refl, sym, ◌∙◌, ap}

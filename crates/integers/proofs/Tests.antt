@@ -1,7 +1,7 @@
 -- What tests say, alone and joined by `&&` and `||`.
 --     tests             `omega tests` reads and proves tests of numbers
---     leb-same          two tests that hold together
---     by-test           what holds of both results of a test holds of its result
+--     leb_same          two tests that hold together
+--     by_test           what holds of both results of a test holds of its result
 --     both_true, both_false     each half of a test that holds, or that fails
 --     either            what holds for either of two tests of which one holds
 --     and               two tests that hold, joined

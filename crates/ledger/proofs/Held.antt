@@ -1,6 +1,6 @@
 -- What a book within its limits holds, as facts that `omega` reads, and back: a book that holds no more is within its limits.
 --     held, holds          what a book within its limits holds, and back; likewise for an account
---     contracts-most       the final minute's contracts, against the number of accounts
+--     contracts_most       the final minute's contracts, against the number of accounts
 -- Assumes nothing.
 use mathlib.Core.Path.{◌≡◌}
 use mathlib.Core.Bool.{true}

@@ -1,10 +1,10 @@
 -- An accepted call on a book within its limits hands back a book within its limits: the statements of specs/Keeping.antt.
---     limits-kept, shape-kept         a call
+--     limits_kept, shape_kept         a call
 --     step_kept                       the answer to a call, accepted or refused
---     fresh-within, fresh-shaped      a fresh book
---     run-within, never-beyond        a list of calls on an accepted opening
---     opened-within, stays_within     the same as what is required of a book
---     refused-beyond                  a refused opening
+--     fresh_within, fresh_shaped      a fresh book
+--     run_within, never_beyond        a list of calls on an accepted opening
+--     opened_within, stays_within     the same as what is required of a book
+--     refused_beyond                  a refused opening
 -- Assumes nothing.
 use mathlib.Core.Path.{◌≡◌, refl}
 use mathlib.Core.Bool.{Bool, true, false, cond}

@@ -1,7 +1,7 @@
 -- What a book within its limits gives the inner layer.
 --     tradable, fixable, closable     what its functions require
---     step-within                     refusal 2 passes
---     on-figures, on-trade, on-close  the answer to a call that touches no account, to a trade and to a close, from its parts
+--     step_within                     refusal 2 passes
+--     on_figures, trade-answered, close-answered  the answer to a call that touches no account, to a trade and to a close, from its parts
 -- Assumes nothing.
 use mathlib.Core.Path.{◌≡◌, refl, ◌∙◌, ap}
 use mathlib.Core.Bool.{Bool, true, false, cond}

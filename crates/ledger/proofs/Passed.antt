@@ -1,6 +1,6 @@
 -- What is known of a call that no refusal meets.
 --     passed            the book is within its limits, and none of the sentences is met
---     within-passes     on a book within its limits the number is not 2
+--     within_passes     on a book within its limits the number is not 2
 -- Assumes nothing.
 use mathlib.Core.Path.{◌≡◌, refl, ap}
 use mathlib.Core.Bool.{Bool, true, false, not, cond}

@@ -7,7 +7,7 @@ ghost use Rattle.ledger.specs.Refusals.{within_limits};
 ghost use Rattle.ledger.specs.Inner.{answer_of};
 ghost use Rattle.ledger.specs.Step.{report_refusal, reported};
 ghost use Rattle.ledger.specs.Step.{opening as Step·opening};
-ghost use Rattle.ledger.specs.Step.{step as Step-step};
+ghost use Rattle.ledger.specs.Step.{step as Step·step};
 
 use calls::{Call, Market, Trade};
 use columns::ACCOUNTS;
@@ -97,7 +97,7 @@ impl Book {
 
     // Any call. The limits are tested on the columns that it takes out of the book, so that this copies none.
     pub fn step(self, call: Call) -> Answer
-        ensures { result ≡ Step-step accounts self call }
+        ensures { result ≡ Step·step accounts self call }
     {
         let mut opening = self.opening;
         let mut position = self.position;
@@ -125,49 +125,49 @@ impl Book {
     }
 
     pub fn quote(self, bid: u32, offer: u32) -> Answer
-        ensures { result ≡ Step-step accounts self (Call.Quote (record { bid = bid; offer = offer })) }
+        ensures { result ≡ Step·step accounts self (Call.Quote (record { bid = bid; offer = offer })) }
     {
         self.step(Call::Quote(Market { bid, offer }))
     }
 
     pub fn trade(self, trade: Trade) -> Answer
-        ensures { result ≡ Step-step accounts self (Call.Trade trade) }
+        ensures { result ≡ Step·step accounts self (Call.Trade trade) }
     {
         self.step(Call::Trade(trade))
     }
 
     pub fn halt(self) -> Answer
-        ensures { result ≡ Step-step accounts self Call.Halt }
+        ensures { result ≡ Step·step accounts self Call.Halt }
     {
         self.step(Call::Halt)
     }
 
     pub fn resume(self) -> Answer
-        ensures { result ≡ Step-step accounts self Call.Resume }
+        ensures { result ≡ Step·step accounts self Call.Resume }
     {
         self.step(Call::Resume)
     }
 
     pub fn minute_end(self, index: u32) -> Answer
-        ensures { result ≡ Step-step accounts self (Call.MinuteEnd index) }
+        ensures { result ≡ Step·step accounts self (Call.MinuteEnd index) }
     {
         self.step(Call::MinuteEnd(index))
     }
 
     pub fn fix(self, set: u32) -> Answer
-        ensures { result ≡ Step-step accounts self (Call.Fix set) }
+        ensures { result ≡ Step·step accounts self (Call.Fix set) }
     {
         self.step(Call::Fix(set))
     }
 
     pub fn close(self) -> Answer
-        ensures { result ≡ Step-step accounts self Call.Close }
+        ensures { result ≡ Step·step accounts self Call.Close }
     {
         self.step(Call::Close)
     }
 
     pub fn day_length(self, minutes: u32) -> Answer
-        ensures { result ≡ Step-step accounts self (Call.DayLength minutes) }
+        ensures { result ≡ Step·step accounts self (Call.DayLength minutes) }
     {
         self.step(Call::DayLength(minutes))
     }

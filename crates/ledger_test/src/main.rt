@@ -17,29 +17,24 @@ mod turn;
 mod words;
 
 use std::io;
-use std::io::{ErrorKind, Read};
+use std::io::Read;
 
 // The bytes of the cases that are read.
 const MOST_INPUT: usize = 65_536;
 
-// Reads until the buffer is full or the reader has no more, and answers how many bytes it read. A read that a signal broke off is
-// tried again. The turns are counted because each loop must end.
+// Reads until the buffer is full or the reader has no more, and answers how many bytes it read.
 fn read_full<R: Read>(reader: &mut R, buffer: &mut [u8]) -> io::Result<usize>
     ensures { IfOk result (λ n. n ≤ length buffer.new) }
 {
     let mut at: usize = 0;
-    for _ in 0..u64::MAX {
-        if at == buffer.len() {
+    while at < buffer.len() {
+        let n = reader.read(&mut buffer[at..])?;
+        if n == 0 {
             return Ok(at);
         }
-        match reader.read(&mut buffer[at..]) {
-            Ok(0) => return Ok(at),
-            Ok(n) => at += n,
-            Err(e) if e.kind() == ErrorKind::Interrupted => {}
-            Err(e) => return Err(e),
-        }
+        at += n;
     }
-    Err(io::Error::from(ErrorKind::TimedOut))
+    Ok(at)
 }
 
 fn main(rt: HostRuntime) -> io::Result<()> {

@@ -1,6 +1,6 @@
 -- How long the lines are.
---     refused-short, day-short      those of a refusal and of a fix
---     account-short, accounts-short      those of one and of all accounts
+--     refused_short, day_short      those of a refusal and of a fix
+--     account_short, accounts_short      those of one and of all accounts
 -- Assumes nothing.
 use mathlib.Core.List.{List}
 use Prim.Native.Nat.{ℕ, zero, suc, ◌*◌, ◌≤◌}

@@ -5,11 +5,11 @@
 mod print;
 mod rows;
 
-ghost use Rattle.std.specs.Prelude.{◌≡◌, ◌≤◌, true, nat_abs};
+ghost use Rattle.std.specs.Prelude.{◌≡◌, ◌≤◌, true, nat_abs, IfOk, ◌+◌, ◌<◌};
 ghost use Rattle.prices.specs.Price.{is_price};
 ghost use Rattle.funding.specs.Minute.{weighted_limit};
 
-use rows::{Weighted, amount, basis, clamp, minute, rate, spread};
+use rows::{Weighted, amount, basis, clamp, minute, print_minute, rate, spread};
 use std::io;
 
 fn no_minutes() -> Weighted
@@ -36,15 +36,33 @@ fn bases(rt: &impl Print) -> io::Result<()> {
     basis(rt, 8_400_790, 8_404_832)
 }
 
+// A minute of the sample weights, printed with its weight and basis.
+fn weighted(
+    rt: &impl Print,
+    day: Weighted,
+    bid: u32,
+    offer: u32,
+    last: u32,
+    index: u32,
+) -> io::Result<Weighted>
+    requires { (nat_abs day.sum ≤ weighted_limit day.count) × (day.count < 10)
+        × (is_price bid ≡ true) × (is_price offer ≡ true) × (is_price last ≡ true) × (is_price index ≡ true) }
+    ensures { IfOk result (λ r. (nat_abs r.sum ≤ weighted_limit r.count) × (r.count ≤ day.count + 1)) }
+{
+    let after = minute(day, bid, offer, last, index);
+    print_minute(rt, bid, offer, last, index, after.count)?;
+    Ok(after)
+}
+
 // The five minutes of the sample weights; the examples differ in the third one's bid.
 fn weights(rt: &impl Print, bid: u32) -> io::Result<()>
     requires { is_price bid ≡ true }
 {
-    let day = minute(rt, no_minutes(), 8_391_030, 8_391_040, 8_391_500, 8_391_603)?;
-    let day = minute(rt, day, 8_396_580, 8_396_590, 8_396_580, 8_398_313)?;
-    let day = minute(rt, day, bid, 8_398_610, 8_400_000, 8_399_016)?;
-    let day = minute(rt, day, 8_399_450, 8_399_460, 8_399_460, 8_399_921)?;
-    let day = minute(rt, day, 8_400_790, 8_400_800, 8_400_790, 8_404_832)?;
+    let day = weighted(rt, no_minutes(), 8_391_030, 8_391_040, 8_391_500, 8_391_603)?;
+    let day = weighted(rt, day, 8_396_580, 8_396_590, 8_396_580, 8_398_313)?;
+    let day = weighted(rt, day, bid, 8_398_610, 8_400_000, 8_399_016)?;
+    let day = weighted(rt, day, 8_399_450, 8_399_460, 8_399_460, 8_399_921)?;
+    let day = weighted(rt, day, 8_400_790, 8_400_800, 8_400_790, 8_404_832)?;
     rate(rt, day)
 }
 

@@ -74,44 +74,53 @@ pub fn basis(rt: &impl Print, futures: u32, index: u32) -> io::Result<()>
     end_line(rt)
 }
 
-// A valid minute's weight and basis.
-fn weigh(rt: &impl Print, day: Weighted, futures: u32, index: u32) -> io::Result<Weighted>
+// The valid minutes with one more.
+fn weigh(day: Weighted, futures: u32, index: u32) -> Weighted
     requires { (nat_abs day.sum ≤ weighted_limit day.count) × (day.count < 10) × (is_price futures ≡ true) × (is_price index ≡ true) }
-    ensures { IfOk result (λ r. (nat_abs r.sum ≤ weighted_limit r.count) × (r.count ≤ day.count + 1)) }
+    ensures { (nat_abs result.sum ≤ weighted_limit result.count) × (result.count ≤ day.count + 1) }
 {
     let basis = funding::basis(futures, index);
     let sum = funding::accrue(day.sum, day.count, basis);
     let count = day.count + 1;
-    number(rt, count)?;
-    signed(rt, basis)?;
-    end_line(rt)?;
-    Ok(Weighted { count, sum })
+    Weighted { count, sum }
 }
 
-// Bid, offer, last, index; weight and basis, both 0 where the minute is not valid.
-pub fn minute(
+// The valid minutes with a minute, where it is valid.
+pub fn minute(day: Weighted, bid: u32, offer: u32, last: u32, index: u32) -> Weighted
+    requires { (nat_abs day.sum ≤ weighted_limit day.count) × (day.count < 10)
+        × (is_price bid ≡ true) × (is_price offer ≡ true) × (is_price last ≡ true) × (is_price index ≡ true) }
+    ensures { (nat_abs result.sum ≤ weighted_limit result.count) × (result.count ≤ day.count + 1) }
+{
+    if funding::within_spread(bid, offer, Product::terms()) {
+        weigh(day, funding::futures_price(bid, offer, last), index)
+    } else {
+        day
+    }
+}
+
+// Bid, offer, last, index; the minute's weight and basis, both 0 where it is not valid.
+pub fn print_minute(
     rt: &impl Print,
-    day: Weighted,
     bid: u32,
     offer: u32,
     last: u32,
     index: u32,
-) -> io::Result<Weighted>
-    requires { (nat_abs day.sum ≤ weighted_limit day.count) × (day.count < 10)
-        × (is_price bid ≡ true) × (is_price offer ≡ true) × (is_price last ≡ true) × (is_price index ≡ true) }
-    ensures { IfOk result (λ r. (nat_abs r.sum ≤ weighted_limit r.count) × (r.count ≤ day.count + 1)) }
+    weight: u32,
+) -> io::Result<()>
+    requires { 0 < index }
 {
     text(rt, b"minute")?;
     number(rt, bid)?;
     number(rt, offer)?;
     number(rt, last)?;
     number(rt, index)?;
-    if funding::within_spread(bid, offer, Product::terms()) {
-        weigh(rt, day, funding::futures_price(bid, offer, last), index)
-    } else {
-        text(rt, b" 0 0\n")?;
-        Ok(day)
+    let futures = valid_price(bid, offer, last);
+    if futures == 0 {
+        return text(rt, b" 0 0\n");
     }
+    number(rt, weight)?;
+    signed(rt, funding::basis(futures, index))?;
+    end_line(rt)
 }
 
 // Valid minutes; their rate.

@@ -1,7 +1,7 @@
 -- An accepted call leaves figures within their limits: the statement of specs/Outcome.antt.
---     price-at, amount-at     the price and the amount of a fix
+--     fix_price-held, fix_amount-held     the price and the amount of a fix
 --     held_after              every call, from what it passed
---     figures-kept            the same, from the tests
+--     figures_kept            the same, from the tests
 -- Assumes nothing.
 use mathlib.Core.Path.{◌≡◌, refl, ◌∙◌, ap}
 use mathlib.Core.Bool.{true, not, ◌&&◌, ◌||◌, or-true}

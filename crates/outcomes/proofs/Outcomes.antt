@@ -1,6 +1,6 @@
 -- What the answers come to.
---     refused-is      a refusal with the call's number is its outcome
---     accepted-is     so are the changed figures, where the number is 0
+--     refused_is      a refusal with the call's number is its outcome
+--     accepted_is     so are the changed figures, where the number is 0
 -- Assumes nothing.
 use mathlib.Core.Path.{◌≡◌, ◌∙◌}
 use Prim.Native.Nat.{ℕ}

@@ -1,5 +1,5 @@
 -- What is known of a call on figures that no refusal meets.
---     passed-figures     none of the sentences is met
+--     passed_figures     none of the sentences is met
 -- Assumes nothing.
 use mathlib.Core.Path.{◌≡◌}
 use Rattle.calls.specs.declared.Call.{Call}

@@ -1,8 +1,8 @@
 -- What the tests of a price say.
---     price-to, price-by     a price lies between the least and the largest
---     none-or-price          a price is 0 or a price;  the-price  what is present and is one of the two is a price
---     price-most             a price that may be none
---     ticked-price           what is 0 or ticked is 0 or a price
+--     price_to, price_by     a price lies between the least and the largest
+--     none_or_price-price          a price is 0 or a price;  the_price  what is present and is one of the two is a price
+--     price_most             a price that may be none
+--     ticked_price           what is 0 or ticked is 0 or a price
 -- Assumes nothing.
 use mathlib.Core.Path.{◌≡◌, refl, ◌∙◌, ap, ap₂}
 use mathlib.Core.Bool.{Bool, true, false, ◌&&◌, ◌||◌, or-true}

@@ -1,6 +1,6 @@
 -- The lines of a file's records, one record after another.
---     text-short           how long the lines of one record are
---     records-short        and those of all records of a file
+--     text_short           how long the lines of one record are
+--     records_short        and those of all records of a file
 --     kept                 a record leaves a book within its limits
 --     further              the record after this one starts further on in the file
 --     lines_left           the lines from a place on

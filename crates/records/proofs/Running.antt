@@ -1,6 +1,6 @@
 -- How a run over a file goes on.
 --     begins, ends               at the start, and where no call is left
---     skips, skips-all, stepped     past a record that is no call, past all that is left where no call is, and past a call
+--     skips, skips_all, stepped     past a record that is no call, past all that is left where no call is, and past a call
 --     joined                     one part after another
 -- Assumes nothing.
 use mathlib.Core.Path.{◌≡◌, refl, sym, ◌∙◌, ap, ap₂}

@@ -1,6 +1,6 @@
 -- How large a fix's figures get, for the limits of a book.
---     clamped-size, amount-fits, amount-size   the clamped rate, the product of the amount, the amount
---     settlement-is-price                      the settlement price
+--     clamped_size, amount_fits, amount_size   the clamped rate, the product of the amount, the amount
+--     settlement_is_price                      the settlement price
 -- Assumes nothing.
 use mathlib.Core.Path.{◌≡◌, refl, ap}
 use mathlib.Core.Bool.{true, ◌&&◌}

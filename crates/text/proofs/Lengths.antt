@@ -1,6 +1,6 @@
 -- How long a number is in decimal.
---     decimal-short     20 digits at most
---     signed-short      and a minus
+--     decimal_short     20 digits at most
+--     signed_short      and a minus
 -- Assumes nothing.
 use mathlib.Core.Bool.{cond}
 use mathlib.Core.List.{List, []}

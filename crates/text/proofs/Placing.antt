@@ -1,8 +1,8 @@
 -- Laws of texts put piece by piece.
---     then, room-first, room-rest   two texts one after another
+--     then, room_first, room_rest   two texts one after another
 --     in_words, nothing             one text in other words, and none
---     length-placed, kept           the buffer keeps its length
---     placed-over                   what was put from the text's start on is the part of it that the buffer lies over
+--     length_placed, kept           the buffer keeps its length
+--     placed_over                   what was put from the text's start on is the part of it that the buffer lies over
 -- Assumes nothing.
 use mathlib.Core.Path.{◌≡◌, refl, sym, ◌∙◌, ap, subst}
 use mathlib.Core.List.{List, [], ◌∷◌, ◌++◌}

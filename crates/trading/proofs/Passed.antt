@@ -1,6 +1,6 @@
 -- What a trade's sentences come to.
---     trade-number     its number by the figures, and where they give none by its accounts
---     in-range         where no account is missing, both are among the n
+--     trade_number     its number by the figures, and where they give none by its accounts
+--     in_range         where no account is missing, both are among the n
 -- Assumes nothing.
 use mathlib.Core.Path.{◌≡◌, refl}
 use mathlib.Core.Bool.{Bool, true, false, not, cond, ◌&&◌, ◌||◌}

@@ -21,13 +21,13 @@ accrues S k F u s n f i =
     record { sum = s; count = omega (arith, n); size = basis_size F u u'.0 u'.1 F'.0 F'.1 }
 
 pub accrue-sum-requires : goal.accrue-sum-requires
-accrue-sum-requires g c =
+accrue-sum-requires c =
     let sum : SFits w64 c.args.day.sum = search rules in
     let basis : SFits w64 c.basis-basis.result = record { sfits = c.basis-basis.type_inv } in
     rw (to_z-of_z sum, to_z-of_z basis, c.basis-basis.ensures) (accrues c.args.day.sum c.args.day.count c.args.futures c.args.index c.requires.0 c.requires.1 c.requires.2 c.requires.3)
 
 pub returns : goal.returns
-returns g c =
+returns c =
     let S = c.args.day.sum in
     let sum : SFits w64 S = search rules in
     let basis : SFits w64 c.basis-basis.result = record { sfits = c.basis-basis.type_inv } in
