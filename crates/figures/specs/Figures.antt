@@ -1,12 +1,12 @@
 -- All that a book holds beside its account columns: the numbers in force, the opening and the limits.
-use Rattle.std.specs.Prelude.{Bool, false, cond, ◌&&◌, ◌||◌, ℕ}
-use lib.{Dec.leb, Dec.eqb, IntN.pos}
+use Rattle.std.specs.Prelude.{Bool, false, cond, ◌&&◌, ◌||◌, ℕ, Option, None, Result, Ok, Err}
+use lib.{Dec.leb, Dec.eqb}
 use Rattle.integers.specs.declared.{Tie.Tie, Tie.TheVariants.Even}
 use Rattle.prices.specs.Price.{none_or_price}
 use Rattle.funding.specs.{declared.Terms.Terms, Terms.standard_terms}
-use Rattle.refusals.specs.Refusals.{most_days}
+use Rattle.refusals.specs.{declared.Refusal.Refusal, Refusals.most_days, Refusals.number}
 use Rattle.day.specs.{Day.empty_day, Limits.day_holds}
-use Rattle.figures.specs.declared.{Figures.Figures, Fixing.Fixing, Outcome.Outcome}
+use Rattle.figures.specs.declared.{Figures.Figures, Fixing.Fixing}
 
 -- the terms and the rule for ties in force on the open day: document 01's on every day
 abbrev pub terms_on : Figures → Terms
@@ -29,17 +29,24 @@ is_size s = eqb s hundredth || eqb s tenth
 abbrev pub fresh_figures : ℕ → Figures
 fresh_figures s = record { size = s; closed = 0; halted = false; previous = record { price = 0; index = 0 }; day = empty_day }
 
--- what any call but a fix finds
-abbrev pub no_fixing : Fixing
-no_fixing = record { price = 0; rate = pos 0; amount = pos 0; valid = 0 }
+-- what a call comes to: the number of its refusal, 0 for none, what a fix found, and the figures after it
+pub record Outcome : Type 0 where
+  pub code : ℕ
+  pub fixing : Option Fixing
+  pub figures : Figures
 
 -- figures with a refusal's number, 0 for none, and no fix
 abbrev pub numbered : Figures → ℕ → Outcome
-numbered f number = record { code = number; fixing = no_fixing; figures = f }
+numbered f number = record { code = number; fixing = None; figures = f }
 
 -- 01: "A refused opening returns an empty book of size 0"; its number is 5
 abbrev pub opened : ℕ → Outcome
 opened s = numbered (fresh_figures (cond (is_size s) s 0)) (cond (is_size s) 0 5)
+
+-- the outcome that the answer to an opening stands for
+abbrev pub opening_of : Result Figures Refusal → Outcome
+opening_of (Ok f) = numbered f 0
+opening_of (Err r) = numbered (fresh_figures 0) (number r)
 
 -- 01: "size 1 or 10; closed days 0 to 2,600; … previous price, previous index … 0 or a price"
 unfoldable pub figures_hold : Figures → Bool

@@ -2,7 +2,7 @@
 #![tactic(auto)]
 
 ghost use Rattle.std.specs.Prelude.{◌≡◌};
-ghost use Rattle.figures.specs.Figures.{terms_on, tie_on, no_fixing, numbered, figures_hold};
+ghost use Rattle.figures.specs.Figures.{terms_on, tie_on, fresh_figures, figures_hold};
 ghost use Rattle.figures.specs.Fixing.{fixing_at, Fixable};
 
 use day::Day;
@@ -15,7 +15,7 @@ use settlement::Previous;
 
 pub mod product;
 
-// All that a book holds beside its account columns. Here, in `Outcome` and in the structs of `day` the order of the fields is the
+// All that a book holds beside its account columns. Here and in the structs of `day` the order of the fields is the
 // one with which a run is fastest (`make speed`).
 #[derive(Clone, Copy)]
 pub struct Figures {
@@ -27,8 +27,8 @@ pub struct Figures {
     pub previous: Previous,
 }
 
-// What a fix prints; zeros for any other call.
-#[derive(Clone, Copy)]
+// What a fix finds and prints.
+#[derive(Clone, Copy, Debug, PartialEq, Eq)]
 pub struct Fixing {
     pub price: u32,
     // the clamped rate
@@ -38,40 +38,20 @@ pub struct Fixing {
     pub valid: u32,
 }
 
-// The refusal's number and the same figures, or 0 and the new ones.
-#[derive(Clone, Copy)]
-pub struct Outcome {
-    pub figures: Figures,
-    pub fixing: Fixing,
-    pub code: u8,
-}
-
-impl Fixing {
-    pub fn none() -> Self
-        ensures { result ≡ no_fixing }
-    {
-        Self {
-            price: 0,
-            rate: 0,
-            amount: 0,
-            valid: 0,
-        }
-    }
-}
-
-impl Outcome {
-    pub fn numbered(figures: Figures, code: u8) -> Self
-        ensures { result ≡ numbered figures code }
-    {
-        Self {
-            figures,
-            fixing: Fixing::none(),
-            code,
-        }
-    }
-}
-
 impl Figures {
+    // The figures of a fresh book of this size.
+    pub fn fresh(size: u32) -> Self
+        ensures { result ≡ fresh_figures size }
+    {
+        Self {
+            size,
+            closed: 0,
+            halted: false,
+            previous: Previous { price: 0, index: 0 },
+            day: Day::empty(),
+        }
+    }
+
     // The terms and the rule for ties in force on the open day.
     pub fn terms(self) -> Terms
         ensures { result ≡ terms_on self }

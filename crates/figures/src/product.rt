@@ -1,15 +1,14 @@
 // The two products and their fixed numbers, and the figures of an opening.
 ghost use Rattle.std.specs.Prelude.{◌≡◌};
 ghost use Rattle.funding.specs.Terms.{standard_terms};
-ghost use Rattle.figures.specs.Figures.{hundredth, tenth, is_size, fresh_figures, numbered, opened};
+ghost use Rattle.figures.specs.Figures.{hundredth, tenth, is_size, opened, opening_of};
 
-use crate::{Figures, Outcome};
-use day::Day;
+use crate::Figures;
 use funding::Terms;
-use settlement::Previous;
+use refusals::Refusal;
 
 // A product, by its contract size in hundredths of a coin.
-#[derive(Clone, Copy)]
+#[derive(Clone, Copy, Debug, PartialEq, Eq)]
 pub struct Product {
     pub size: u32,
 }
@@ -46,7 +45,7 @@ impl Product {
     pub fn is_size(size: u32) -> bool
         ensures { result ≡ is_size size }
     {
-        (size == Product::HUNDREDTH) | (size == Product::TENTH)
+        matches!(size, Product::HUNDREDTH | Product::TENTH)
     }
 
     pub fn terms() -> Terms
@@ -59,36 +58,14 @@ impl Product {
         }
     }
 
-    // The figures of a fresh book of this size.
-    fn fresh_figures(size: u32) -> Figures
-        ensures { result ≡ fresh_figures size }
+    // The opening: the fresh figures of the product of this size, or refusal 5 where no product has it.
+    pub fn opening(size: u32) -> Result<Figures, Refusal>
+        ensures { opening_of result ≡ opened size }
     {
-        Figures {
-            size,
-            closed: 0,
-            halted: false,
-            previous: Previous { price: 0, index: 0 },
-            day: Day::empty(),
+        match size {
+            Product::HUNDREDTH => Ok(Figures::fresh(Product::hundredth().size)),
+            Product::TENTH => Ok(Figures::fresh(Product::tenth().size)),
+            _ => Err(Refusal::Field),
         }
-    }
-
-    // An accepted opening of this product.
-    fn accepted_opening(self) -> Outcome
-        ensures { result ≡ numbered (fresh_figures self.size) 0 }
-    {
-        Outcome::numbered(Product::fresh_figures(self.size), 0)
-    }
-
-    // The opening: fresh figures of the product of this size, or refusal 5 with empty figures of size 0.
-    pub fn opening(size: u32) -> Outcome
-        ensures { result ≡ opened size }
-    {
-        if size == Product::HUNDREDTH {
-            return Product::hundredth().accepted_opening();
-        }
-        if size == Product::TENTH {
-            return Product::tenth().accepted_opening();
-        }
-        Outcome::numbered(Product::fresh_figures(0), 5)
     }
 }

@@ -1,8 +1,8 @@
 -- What an accepted call does to the figures: document 01, "A trade date, call by call".
-use Rattle.std.specs.Prelude.{Bool, true, false, ℕ, ◌+◌}
+use Rattle.std.specs.Prelude.{Bool, true, false, ℕ, ◌+◌, Option, None, Some}
 use Rattle.day.specs.{declared.Fixed.Fixed, declared.Day.Day, Day.no_markets, Day.empty_day}
 use Rattle.day_effects.specs.Effects.{with_markets, with_minutes, with_trades, with_fixed, quoted, traded, minute_ended, next_minute, begun, with_length}
-use Rattle.figures.specs.{declared.Figures.Figures, declared.Fixing.Fixing, Figures.terms_on, Figures.no_fixing, Fixing.fix_price, Fixing.fix_amount, Fixing.fixing_at}
+use Rattle.figures.specs.{declared.Figures.Figures, declared.Fixing.Fixing, Figures.terms_on, Fixing.fix_price, Fixing.fix_amount, Fixing.fixing_at}
 use Rattle.calls.specs.declared.Call.TheVariants as call
 use Rattle.calls.specs.{declared.Call.Call, Calls.on_fix, Market.is_valid}
 
@@ -44,6 +44,6 @@ figures_after f (call.Fix set) = with_day f f.halted (with_fixed f.day (fixed_at
 figures_after f call.Close = closed_figures f
 figures_after f (call.DayLength l) = with_begun_day f f.halted (with_length f.day l)
 
--- what the answer to an accepted call says of a fix
-unfoldable pub fixing_of : Figures → Call → Fixing
-fixing_of f = on_fix (fixing_at f) no_fixing
+-- what an accepted call found, which only a fix does
+unfoldable pub fixing_of : Figures → Call → Option Fixing
+fixing_of f = on_fix (λ set. Some (fixing_at f set)) None

@@ -1,132 +1,108 @@
-// What each call makes of the figures where it looks at no account.
-#![tactic(auto)]
+// What each call makes of the figures where it looks at no account. A refused call leaves them as they are.
+#![tactic(auto, unfolding(crate::specs::Effects::figures_after, crate::specs::Effects::fixing_of))]
 
 ghost use Rattle.std.specs.Prelude.{◌≡◌, true, ◌≤◌};
-ghost use Rattle.refusals.specs.Refusals.{most_days};
+ghost use Rattle.std.specs.Result.{result_ok};
+ghost use Rattle.refusals.specs.Refusals.{most_days, number_of};
 ghost use Rattle.day_effects.specs.Inner.{RoomForTrade};
 ghost use Rattle.figures.specs.Figures.{numbered, figures_hold};
 ghost use Rattle.figures.specs.Fixing.{Fixable};
 ghost use Rattle.outcomes.specs.Effects.{with_begun_day, figures_after};
-ghost use Rattle.outcomes.specs.Outcome.{outcome};
+ghost use Rattle.outcomes.specs.Outcome.{outcome, outcome_of_fix};
 
 use calls::{Call, Market, Trade};
 use day::Day;
-use figures::{Figures, Outcome};
-use refusals::{fix_code, halt_code, length_code, minute_end_code, quote_code, resume_code};
+use figures::{Figures, Fixing};
+use refusals::Refusal;
 use settlement::Previous;
 
-// No refusal, and the figures with another day: a date that has begun.
-fn changed(mut figures: Figures, day: Day) -> Outcome
-    ensures { result ≡ numbered (with_begun_day figures figures.halted day) 0 }
+// Sets the day, which has begun with this call.
+fn begin(figures: &mut Figures, day: Day)
+    ensures { figures.new ≡ with_begun_day figures.old figures.old.halted day }
 {
     figures.day = day;
     figures.day.session.begun = true;
-    Outcome::numbered(figures, 0)
 }
 
-pub fn quote(figures: Figures, market: Market) -> Outcome
-    ensures { result ≡ outcome figures (Call.Quote market) }
+pub fn quote(figures: &mut Figures, market: Market) -> Result<(), Refusal>
+    ensures { numbered figures.new (number_of result) ≡ outcome figures.old (Call.Quote market) }
 {
-    let code = quote_code(figures.closed, figures.halted, market);
-    if code != 0 {
-        return Outcome::numbered(figures, code);
-    }
-    changed(figures, day_effects::quoted(figures.day, market))
+    refusals::quote(figures.closed, figures.halted, market)?;
+    begin(figures, day_effects::quoted(figures.day, market));
+    Ok(())
 }
 
 // An accepted trade. Room for it in n and in the gross is required.
-pub fn traded(figures: Figures, t: Trade) -> Outcome
-    requires { RoomForTrade figures.day.trades.settling t }
-    ensures { result ≡ numbered (figures_after figures (Call.Trade t)) 0 }
+pub fn traded(figures: &mut Figures, t: Trade)
+    requires { RoomForTrade figures.old.day.trades.settling t }
+    ensures { figures.new ≡ figures_after figures.old (Call.Trade t) }
 {
-    changed(figures, day_effects::traded(figures.day, t))
+    begin(figures, day_effects::traded(figures.day, t));
 }
 
-pub fn halt(figures: Figures) -> Outcome
-    ensures { result ≡ outcome figures Call.Halt }
+pub fn halt(figures: &mut Figures) -> Result<(), Refusal>
+    ensures { numbered figures.new (number_of result) ≡ outcome figures.old Call.Halt }
 {
-    let code = halt_code(figures.closed, figures.halted);
-    if code != 0 {
-        return Outcome::numbered(figures, code);
-    }
-    let mut after = figures;
-    after.halted = true;
-    changed(after, day_effects::without_markets(figures.day))
+    refusals::halt(figures.closed, figures.halted)?;
+    figures.halted = true;
+    begin(figures, day_effects::without_markets(figures.day));
+    Ok(())
 }
 
-pub fn resume(figures: Figures) -> Outcome
-    ensures { result ≡ outcome figures Call.Resume }
+pub fn resume(figures: &mut Figures) -> Result<(), Refusal>
+    ensures { numbered figures.new (number_of result) ≡ outcome figures.old Call.Resume }
 {
-    let code = resume_code(figures.closed, figures.halted);
-    if code != 0 {
-        return Outcome::numbered(figures, code);
-    }
-    let mut after = figures;
-    after.halted = false;
-    changed(after, figures.day)
+    refusals::resume(figures.closed, figures.halted)?;
+    figures.halted = false;
+    begin(figures, figures.day);
+    Ok(())
 }
 
-pub fn day_length(figures: Figures, minutes: u32) -> Outcome
-    ensures { result ≡ outcome figures (Call.DayLength minutes) }
+pub fn day_length(figures: &mut Figures, minutes: u32) -> Result<(), Refusal>
+    ensures { numbered figures.new (number_of result) ≡ outcome figures.old (Call.DayLength minutes) }
 {
-    let code = length_code(figures.closed, figures.day.session.begun, minutes);
-    if code != 0 {
-        return Outcome::numbered(figures, code);
-    }
     let mut day = figures.day;
+    refusals::day_length(figures.closed, day.session.begun, minutes)?;
     day.session.length = minutes;
-    changed(figures, day)
+    begin(figures, day);
+    Ok(())
 }
 
 // Figures within their limits are required, so that the weighted sum fits.
-pub fn minute_end(figures: Figures, index: u32) -> Outcome
-    requires { figures_hold figures ≡ true }
-    ensures { result ≡ outcome figures (Call.MinuteEnd index) }
+pub fn minute_end(figures: &mut Figures, index: u32) -> Result<(), Refusal>
+    requires { figures_hold figures.old ≡ true }
+    ensures { numbered figures.new (number_of result) ≡ outcome figures.old (Call.MinuteEnd index) }
 {
-    let code = minute_end_code(figures.closed, figures.day.forbids_minute_end(), index);
-    if code != 0 {
-        return Outcome::numbered(figures, code);
-    }
-    let valid = figures
-        .day
+    let day = figures.day;
+    refusals::minute_end(figures.closed, day.forbids_minute_end(), index)?;
+    let valid = day
         .markets
         .minute
         .is_valid(figures.halted, index, figures.terms());
-    changed(
-        figures,
-        day_effects::minute_ended(figures.day, valid, index),
-    )
+    begin(figures, day_effects::minute_ended(day, valid, index));
+    Ok(())
 }
 
-pub fn fix(figures: Figures, set: u32) -> Outcome
-    requires { Fixable figures }
-    ensures { result ≡ outcome figures (Call.Fix set) }
+pub fn fix(figures: &mut Figures, set: u32) -> Result<Fixing, Refusal>
+    requires { Fixable figures.old }
+    ensures { outcome_of_fix result figures.new ≡ outcome figures.old (Call.Fix set) }
 {
+    let day = figures.day;
     let fixing = figures.fixing(set);
-    let code = fix_code(figures.closed, figures.day.forbids_fix(), set, fixing.price);
-    if code != 0 {
-        return Outcome::numbered(figures, code);
-    }
-    let mut after = figures;
-    after.day = day_effects::fixed(figures.day, fixing.price, fixing.amount);
-    Outcome {
-        figures: after,
-        fixing,
-        code: 0,
-    }
+    refusals::fix(figures.closed, day.forbids_fix(), set, fixing.price)?;
+    figures.day = day_effects::fixed(day, fixing.price, fixing.amount);
+    Ok(fixing)
 }
 
 // An accepted close.
-pub fn closed_day(mut figures: Figures) -> Outcome
-    requires { figures.closed ≤ most_days }
-    ensures { result ≡ numbered (figures_after figures Call.Close) 0 }
+pub fn closed_day(figures: &mut Figures)
+    requires { figures.old.closed ≤ most_days }
+    ensures { figures.new ≡ figures_after figures.old Call.Close }
 {
-    let previous = Previous {
+    figures.previous = Previous {
         price: figures.day.fixed.price,
         index: figures.day.minutes.index,
     };
-    figures.previous = previous;
-    figures.closed = figures.closed + 1;
+    figures.closed += 1;
     figures.day = Day::empty();
-    Outcome::numbered(figures, 0)
 }

@@ -1,8 +1,28 @@
 -- Refusals 3 to 9, in document 01's order: a number comes if its sentence is met, and only then.
 use mathlib.Core.{Bool.Bool, Bool.false, Bool.not, Bool.cond, Bool.◌&&◌, Bool.◌||◌, List.List, List.[], List.◌∷◌}
-use Rattle.std.specs.Prelude.{ℕ, leb}
+use Rattle.std.specs.Prelude.{ℕ, leb, Result, Ok, Err}
 use Rattle.prices.specs.Price.{is_present, none_or_price, none_or_ticked}
+use Rattle.refusals.specs.declared.Refusal.{Refusal}
+use Rattle.refusals.specs.declared.Refusal.TheVariants as refusal
 use Rattle.calls.specs.{declared.Call.Call, Calls.on_quote, Calls.on_trade, Calls.on_halt, Calls.on_resume, Calls.on_minute_end, Calls.on_fix, Calls.on_day_length, Length.is_length, Market.uncrossed, Trade.trade_outside}
+
+-- the number of each refusal in document 01
+abbrev pub number : Refusal → ℕ
+number refusal.Record = 1
+number refusal.Limits = 2
+number refusal.Day = 3
+number refusal.Halt = 4
+number refusal.Field = 5
+number refusal.Crossed = 6
+number refusal.Volume = 7
+number refusal.Position = 8
+number refusal.Unpriced = 9
+number refusal.Lists = 10
+
+-- the number that an answer stands for: 01, "A refused call returns its number", 0 where it is accepted
+abbrev pub number_of : {A : Type 0} → Result A Refusal → ℕ
+number_of (Ok a) = 0
+number_of (Err r) = number r
 
 -- 01: "closed days 0 to 2,600"
 abbrev pub most_days : ℕ
@@ -61,3 +81,8 @@ first_met (s ∷ rest) = cond s.1 s.0 (first_met rest)
 -- the number of a call's refusal where its accounts give none
 abbrev pub refusal_by : ℕ → Bool → Bool → ℕ → Call → ℕ
 refusal_by closed forbidden halted price c = first_met (sentences closed forbidden halted price c no_accounts)
+
+-- ---- what the private function promises: the sentences that calls of most kinds can meet
+abbrev pub first_sentences : ℕ → Bool → Bool → Bool → Result Unit Refusal
+first_sentences closed forbidden stopped outside =
+    cond (is_full closed || forbidden) (Err refusal.Day) (cond stopped (Err refusal.Halt) (cond outside (Err refusal.Field) (Ok tt)))

@@ -1,13 +1,57 @@
 // Which refusal a call meets, by its values and what the book says of it: refusals 3 to 9, where its accounts give none.
 #![tactic(auto)]
 
-ghost use Rattle.std.specs.Prelude.{◌≡◌, false};
-ghost use Rattle.refusals.specs.Refusals.{is_full, refusal_by};
+ghost use Rattle.std.specs.Prelude.{◌≡◌, false, cond, Ok, Err};
+ghost use Rattle.refusals.specs.Refusals.{is_full, number_of, refusal_by};
+ghost use Rattle.refusals.specs.Refusals.{first_sentences as Refusals·first_sentences};
+ghost use Rattle.refusals.specs.Refusals.{number as Refusals·number};
 
 use calls::{Call, Market, Trade, is_length};
 use prices::{none_or_price, none_or_ticked};
 
 pub const MOST_DAYS: u32 = 2_600;
+
+// Why a record, a call, an opening or a report is refused, in document 01's order.
+#[derive(Clone, Copy, Debug, PartialEq, Eq)]
+pub enum Refusal {
+    Record,
+    Limits,
+    Day,
+    Halt,
+    Field,
+    Crossed,
+    Volume,
+    Position,
+    Unpriced,
+    Lists,
+}
+
+impl Refusal {
+    // Document 01's number.
+    pub fn number(self) -> u8
+        ensures { result ≡ Refusals·number self }
+    {
+        match self {
+            Refusal::Record => 1,
+            Refusal::Limits => 2,
+            Refusal::Day => 3,
+            Refusal::Halt => 4,
+            Refusal::Field => 5,
+            Refusal::Crossed => 6,
+            Refusal::Volume => 7,
+            Refusal::Position => 8,
+            Refusal::Unpriced => 9,
+            Refusal::Lists => 10,
+        }
+    }
+
+    // This refusal, where its sentence is met.
+    pub fn when(self, met: bool) -> Result<(), Refusal>
+        ensures { result ≡ cond met (Err self) (Ok tt) }
+    {
+        if met { Err(self) } else { Ok(()) }
+    }
+}
 
 // Whether a book has all the closed days that it may have, which allows no call.
 fn is_full(closed: u32) -> bool
@@ -16,111 +60,71 @@ fn is_full(closed: u32) -> bool
     MOST_DAYS <= closed
 }
 
-// The number of a quote's refusal, 0 for none.
-pub fn quote_code(closed: u32, halted: bool, market: Market) -> u8
-    ensures { result ≡ refusal_by closed false halted 0 (Call.Quote market) }
+// The sentences that calls of most kinds can meet, in their order: 3 where the day doesn't allow the call, 4 where the halt
+// doesn't, or its absence, and 5 where a value is outside its field.
+fn first_sentences(
+    closed: u32,
+    forbidden: bool,
+    stopped: bool,
+    outside: bool,
+) -> Result<(), Refusal>
+    ensures { result ≡ Refusals·first_sentences closed forbidden stopped outside }
 {
-    if is_full(closed) {
-        return 3;
-    }
-    if halted {
-        return 4;
-    }
-    if !(none_or_ticked(market.bid) & none_or_ticked(market.offer)) {
-        return 5;
-    }
-    if !market.is_uncrossed() {
-        return 6;
-    }
-    0
+    Refusal::Day.when(is_full(closed) | forbidden)?;
+    Refusal::Halt.when(stopped)?;
+    Refusal::Field.when(outside)
 }
 
-pub fn trade_code(closed: u32, halted: bool, t: Trade) -> u8
-    ensures { result ≡ refusal_by closed false halted 0 (Call.Trade t) }
+pub fn quote(closed: u32, halted: bool, market: Market) -> Result<(), Refusal>
+    ensures { number_of result ≡ refusal_by closed false halted 0 (Call.Quote market) }
 {
-    if is_full(closed) {
-        return 3;
-    }
-    if halted {
-        return 4;
-    }
-    if t.is_outside() {
-        return 5;
-    }
-    0
+    let ticked = none_or_ticked(market.bid) & none_or_ticked(market.offer);
+    first_sentences(closed, false, halted, !ticked)?;
+    Refusal::Crossed.when(!market.is_uncrossed())
 }
 
-pub fn halt_code(closed: u32, halted: bool) -> u8
-    ensures { result ≡ refusal_by closed false halted 0 Call.Halt }
+pub fn trade(closed: u32, halted: bool, t: Trade) -> Result<(), Refusal>
+    ensures { number_of result ≡ refusal_by closed false halted 0 (Call.Trade t) }
 {
-    if is_full(closed) {
-        return 3;
-    }
-    if halted {
-        return 4;
-    }
-    0
+    first_sentences(closed, false, halted, t.is_outside())
 }
 
-pub fn resume_code(closed: u32, halted: bool) -> u8
-    ensures { result ≡ refusal_by closed false halted 0 Call.Resume }
+pub fn halt(closed: u32, halted: bool) -> Result<(), Refusal>
+    ensures { number_of result ≡ refusal_by closed false halted 0 Call.Halt }
 {
-    if is_full(closed) {
-        return 3;
-    }
-    if !halted {
-        return 4;
-    }
-    0
+    first_sentences(closed, false, halted, false)
+}
+
+pub fn resume(closed: u32, halted: bool) -> Result<(), Refusal>
+    ensures { number_of result ≡ refusal_by closed false halted 0 Call.Resume }
+{
+    first_sentences(closed, false, !halted, false)
 }
 
 // Here and below, `forbidden` says that the day doesn't allow the call.
-pub fn minute_end_code(closed: u32, forbidden: bool, index: u32) -> u8
-    ensures { result ≡ refusal_by closed forbidden false 0 (Call.MinuteEnd index) }
+pub fn minute_end(closed: u32, forbidden: bool, index: u32) -> Result<(), Refusal>
+    ensures { number_of result ≡ refusal_by closed forbidden false 0 (Call.MinuteEnd index) }
 {
-    if is_full(closed) | forbidden {
-        return 3;
-    }
-    if !none_or_price(index) {
-        return 5;
-    }
-    0
+    first_sentences(closed, forbidden, false, !none_or_price(index))
 }
 
 // Refusal 4 doesn't name a length of day, so that a halt doesn't stop it.
-pub fn length_code(closed: u32, forbidden: bool, minutes: u32) -> u8
-    ensures { result ≡ refusal_by closed forbidden false 0 (Call.DayLength minutes) }
+pub fn day_length(closed: u32, forbidden: bool, minutes: u32) -> Result<(), Refusal>
+    ensures { number_of result ≡ refusal_by closed forbidden false 0 (Call.DayLength minutes) }
 {
-    if is_full(closed) | forbidden {
-        return 3;
-    }
-    if !is_length(minutes) {
-        return 5;
-    }
-    0
+    first_sentences(closed, forbidden, false, !is_length(minutes))
 }
 
-// The number of a fix's refusal where the price that it finds is this one.
-pub fn fix_code(closed: u32, forbidden: bool, set: u32, price: u32) -> u8
-    ensures { result ≡ refusal_by closed forbidden false price (Call.Fix set) }
+// The refusal of a fix where the price that it finds is this one.
+pub fn fix(closed: u32, forbidden: bool, set: u32, price: u32) -> Result<(), Refusal>
+    ensures { number_of result ≡ refusal_by closed forbidden false price (Call.Fix set) }
 {
-    if is_full(closed) | forbidden {
-        return 3;
-    }
-    if !none_or_price(set) {
-        return 5;
-    }
-    if !(price != 0) {
-        return 9;
-    }
-    0
+    first_sentences(closed, forbidden, false, !none_or_price(set))?;
+    Refusal::Unpriced.when(price == 0)
 }
 
-pub fn close_code(closed: u32, forbidden: bool) -> u8
-    ensures { result ≡ refusal_by closed forbidden false 0 Call.Close }
+pub fn close(closed: u32, forbidden: bool) -> Result<(), Refusal>
+    ensures { number_of result ≡ refusal_by closed forbidden false 0 Call.Close }
 {
-    if is_full(closed) | forbidden {
-        return 3;
-    }
-    0
+    first_sentences(closed, forbidden, false, false)
 }

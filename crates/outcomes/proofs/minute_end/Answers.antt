@@ -1,4 +1,4 @@
--- `outcomes::minute_end` meets its contract: its refusal, or the day after the minute.
+-- What `day_effects::minute_ended` requires: the minute was refused by no sentence.
 use mathlib.Core.Path.{◌≡◌, refl, sym, ◌∙◌}
 use mathlib.Core.Bool.{true, not}
 use mathlib.Core.List.{◌∷◌, []}
@@ -13,11 +13,9 @@ use Rattle.day.specs.Day.{day_length, is_fixed}
 use Rattle.figures.specs.Figures.{terms_on}
 use Rattle.refusals.specs.Refusals.{no_accounts}
 use Rattle.figures.specs.declared.Figures.{Figures}
-use Rattle.outcomes.specs.Effects.{figures_after, fixing_of}
 use Rattle.outcomes.specs.Outcome.{figures_refusal}
 use Rattle.calls.specs.declared.Call.TheVariants as call
 use Rattle.calls.specs.Market.{two_sided, is_valid}
-use Rattle.outcomes.proofs.Outcomes.{accepted_is}
 use Rattle.figures.proofs.Held.{held_figures}
 use Rattle.outcomes.proofs.Passed.{passed_figures}
 use Rattle.day.proofs.Held.{day_most}
@@ -37,13 +35,13 @@ present f u v =
 
 pub minute_ended-requires : goal.minute_ended-requires
 minute_ended-requires c =
-    let f = c.args.figures in
+    let f = c.args.figures.now in
     let d = f.day in
     let u = c.args.index in
     let k = call.MinuteEnd u in
     let h = held_figures f c.requires in
-    let code : c.minute_end_code-code.result ≡ figures_refusal f k = c.minute_end_code-code.ensures ∙ rw c.forbids_minute_end.ensures in
-    let p = passed_figures f k no_accounts (sym code ∙ c.if-code-ne0.false) in
+    let code : 0 ≡ figures_refusal f k = c.in_ok-minute_end.ensures ∙ rw c.forbids_minute_end.ensures in
+    let p = passed_figures f k no_accounts (sym code) in
     let before : d.minutes.ended < day_length d = omega (tests, none (leb (day_length d) d.minutes.ended) (is_fixed d ∷ []) p.day 0) in
     let valid : c.is_valid-valid.result ≡ true → is_valid (terms_on f) f.halted d.markets.minute u ≡ true = λ e. sym (c.is_valid-valid.ensures ∙ rw c.terms.ensures) ∙ e in
     record {
@@ -52,12 +50,3 @@ minute_ended-requires c =
       present = λ e. present f u (valid e);
       accrues = λ e. accrues d h.day (terms_on f) f.halted u before (not-false (none_or_price u) p.field) (valid e);
     }
-
-pub returns : goal.returns
-unfolding figures_after fixing_of
-returns c =
-    let f = c.args.figures in
-    let u = c.args.index in
-    let code : c.minute_end_code-code.result ≡ figures_refusal f (call.MinuteEnd u) = c.minute_end_code-code.ensures ∙ rw c.forbids_minute_end.ensures in
-    let valid : c.is_valid-valid.result ≡ is_valid (terms_on f) f.halted f.day.markets.minute u = c.is_valid-valid.ensures ∙ rw c.terms.ensures in
-    accepted_is f (call.MinuteEnd u) code c.if-code-ne0.false (c.changed.ensures ∙ rw (c.minute_ended.ensures, valid))
