@@ -11,7 +11,7 @@ use native.Mathlib.Omega.{arith}
 use lib.ListN.{length, get_or, set, drop}
 use lib.Seq.{drop-cons, set_at, append_snoc}
 use Rattle.columns.specs.Columns.{table}
-use Rattle.columns.proofs.Columns.{table_length}
+use Rattle.columns.proofs.Accounts.{table_length}
 
 module _ {A : Type 0} where
   abbrev pub filling : ℕ → (ℕ → A) → List A → List A

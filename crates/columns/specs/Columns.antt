@@ -1,7 +1,8 @@
 -- A column of numbers, one for each account, and what is said of every account.
 use mathlib.Core.{Bool.Bool, Bool.true, Bool.◌&&◌, List.List, List.[], List.◌∷◌}
 use Rattle.std.specs.Prelude.{ℕ, zero, suc, ◌+◌}
-use lib.{IntN.ℤ, IntN.pos, IntN.◌+ℤ◌, ListN.get_or, ListN.set}
+use lib.{IntN.ℤ, IntN.pos, IntN.◌+ℤ◌, ListN.get_or, ListN.set, ListN.replicate}
+use Rattle.columns.specs.declared.{Account.Account, Columns.Columns}
 
 -- 01: "Accounts are 0 to 255"
 abbrev pub accounts : ℕ
@@ -13,6 +14,22 @@ entry l j = get_or l j (pos 0)
 
 abbrev pub count_at : List ℕ → ℕ → ℕ
 count_at l j = get_or l j 0
+
+-- account j's entry of each column
+abbrev pub account_at : Columns → ℕ → Account
+account_at c j = record {
+  opening = entry c.opening j;
+  position = entry c.position j;
+  cost = entry c.cost j;
+  volume = count_at c.volume j;
+  cash = entry c.cash j;
+}
+
+-- 01: "zeros", in every column of n accounts
+abbrev pub zero_columns : ℕ → Columns
+zero_columns n =
+    let zeros = replicate n (pos 0) in
+    record { opening = zeros; position = zeros; cost = zeros; volume = replicate n 0; cash = zeros }
 
 -- account j's entry, raised
 abbrev pub raise : List ℤ → ℕ → ℤ → List ℤ

@@ -8,7 +8,7 @@ use lib.IntN.{pos}
 use Rattle.ledger.specs.declared.Book.{Book}
 use Rattle.figures.specs.Figures.{is_size}
 use Rattle.columns.specs.Columns.{entry}
-use Rattle.columns.proofs.Columns.{table_at}
+use Rattle.columns.proofs.Accounts.{table_at}
 use Rattle.ledger.specs.Step.{fresh, opening}
 use Rattle.history.specs.History.{closings}
 use Rattle.history.specs.Cash.{net, cash_of}

@@ -23,7 +23,7 @@ use Rattle.day_effects.specs.Effects.{traded, minute_ended}
 use Rattle.outcomes.specs.Effects.{figures_after}
 use Rattle.calls.proofs.Calls as calls
 use Rattle.closing.specs.Closing.{posting, posted}
-use Rattle.columns.proofs.Columns.{table_at}
+use Rattle.columns.proofs.Accounts.{table_at}
 use Rattle.counterparties.specs.Counterparties.{exchanged, counted}
 use Rattle.ledger.specs.declared.Book.{Book}
 use Rattle.ledger.specs.Effects.{with_figures, traded_book, closed_book, effect}

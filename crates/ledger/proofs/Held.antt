@@ -19,7 +19,7 @@ use Rattle.figures.proofs.Held.{HeldFigures, held_figures, figures_hold-held}
 use Rattle.day.proofs.Held.{HeldFinal, held_final, final_holds-held}
 use Rattle.columns.specs.Columns.{entry, count_at, all_below, sum_below}
 use Rattle.columns.specs.Limits.{most_position, most_volume, most_posting}
-use Rattle.columns.proofs.Columns.{all_at, all_by, sum_most}
+use Rattle.columns.proofs.Accounts.{all_at, all_by, sum_most}
 use Rattle.ledger.specs.declared.Book.{Book}
 use Rattle.ledger.specs.Refusals.{account_of, within_limits}
 

@@ -23,7 +23,7 @@ use Rattle.refusals.specs.Refusals.{no_accounts}
 use Rattle.figures.proofs.Held.{HeldFigures}
 use Rattle.outcomes.proofs.Keeping.{held_after}
 use Rattle.columns.specs.Columns.{count_at, sum_below}
-use Rattle.columns.proofs.Columns.{table_length}
+use Rattle.columns.proofs.Accounts.{table_length}
 use Rattle.counterparties.specs.Counterparties.{accounts_of}
 use Rattle.ledger.specs.Effects.{with_figures, effect}
 use Rattle.ledger.specs.Refusals.{refusal, within_limits}

@@ -14,7 +14,7 @@ use Rattle.day.proofs.Held.{HeldFinal, empty_day-held}
 use Rattle.columns.specs.Columns.{entry, count_at}
 use Rattle.columns.specs.Limits.{most_posting}
 use Rattle.closing.specs.Closing.{posting, posted}
-use Rattle.columns.proofs.Columns.{table_at}
+use Rattle.columns.proofs.Accounts.{table_at}
 use Rattle.closing.proofs.PostingSize.{posting_size}
 use Rattle.ledger.specs.Effects.{closed_book}
 use Rattle.ledger.specs.declared.Book.{Book}

@@ -21,7 +21,7 @@ use Rattle.day.proofs.Held.{HeldFinal}
 use Rattle.day_effects.proofs.Keeping.{TradeFields, trade_fields}
 use Rattle.columns.specs.Columns.{entry, count_at, raise, raise_count, sum_below}
 use Rattle.columns.specs.Limits.{most_position, most_volume}
-use Rattle.columns.proofs.Columns.{sum_raised}
+use Rattle.columns.proofs.Accounts.{sum_raised}
 use Rattle.counterparties.specs.Counterparties.{exchanged, counted}
 use Rattle.counterparties.proofs.Raised.{cost_raised, untouched, of_each}
 use Rattle.trading.proofs.Passed.{in_range}

@@ -13,7 +13,7 @@ use Rattle.ledger.specs.Inner.{book_of}
 use Rattle.ledger.proofs.Held.{held_account}
 use Rattle.integers.proofs.Tests.{each}
 use Rattle.columns.specs.Columns.{accounts}
-use Rattle.columns.proofs.Columns.{all_at}
+use Rattle.columns.proofs.Accounts.{all_at}
 use Rattle.ledger.specs.declared.Book.{Book}
 use Rattle.ledger.specs.Refusals.{account_of, within_limits}
 use Rattle.ledger.proofs.limits.limits_hold.Goals as goal

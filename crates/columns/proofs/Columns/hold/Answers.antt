@@ -1,0 +1,29 @@
+-- `Columns::hold` meets its contract. The loop's invariant: the accounts passed hold.
+use mathlib.Core.Path.{◌≡◌, sym, ◌∙◌, ap}
+use mathlib.Core.Bool.{true}
+use Prim.Native.Nat.{ℕ, ◌<◌}
+use native.Mathlib.Numerals.{add-one}
+use borrow.Author.Rules.{rules}
+use Rattle.integers.proofs.Tests.{◌and◌}
+use Rattle.columns.specs.Columns.{accounts, all_below, account_at}
+use Rattle.columns.specs.Limits.{holds_at, account_holds}
+use Rattle.columns.proofs.Accounts.{all_below_zero, all_below_suc, all_not}
+use Rattle.columns.proofs.columns.Columns.hold.Goals as goal
+
+pub loop-i-init : goal.loop-i-init
+loop-i-init c = rw all_below_zero
+
+pub returns-then-not-holds : goal.returns-then-not-holds
+returns-then-not-holds c =
+    let a = c.args in
+    let i = c.loop-i.i in
+    let h : i < accounts = search rules in
+    sym (all_not accounts (holds_at a.closed a.self.now) i h (sym (c.holds.ensures ∙ ap (account_holds a.closed) c.account.ensures) ∙ c.if-not-holds.true))
+
+pub loop-i-preserved : goal.loop-i-preserved
+loop-i-preserved c =
+    let a = c.args in
+    let i = c.loop-i.i in
+    let p = holds_at a.closed a.self.now in
+    let h : p i ≡ true = sym (c.holds.ensures ∙ ap (account_holds a.closed) c.account.ensures) ∙ c.if-not-holds.false in
+    ap (λ (n : ℕ). all_below n p) (add-one i) ∙ all_below_suc i p ∙ (c.loop-i.invariant and h)
