@@ -38,7 +38,8 @@ fn position_holds(position: i64) -> bool
 }
 
 impl Account {
-    // Whether the account is within its limits, in document 01's order. The product of days and a day's largest posting has to fit: days within their own limit are required.
+    // Whether the account is within its limits, in document 01's order. The product of days and a day's largest posting has to
+    // fit: days within their own limit are required.
     pub fn holds(self, closed: u32) -> bool
         requires { closed ≤ most_days }
         ensures { result ≡ account_holds closed self }

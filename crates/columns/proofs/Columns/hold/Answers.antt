@@ -5,10 +5,10 @@ use Prim.Native.Nat.{ℕ, ◌<◌}
 use native.Mathlib.Numerals.{add-one}
 use borrow.Author.Rules.{rules}
 use Rattle.integers.proofs.Tests.{◌and◌}
-use Rattle.columns.specs.Columns.{accounts, all_below, account_at}
+use Rattle.columns.specs.Columns.{accounts, all_below}
 use Rattle.columns.specs.Limits.{holds_at, account_holds}
 use Rattle.columns.proofs.Accounts.{all_below_zero, all_below_suc, all_not}
-use Rattle.columns.proofs.columns.Columns.hold.Goals as goal
+use Rattle.columns.proofs.Columns.hold.Goals as goal
 
 pub loop-i-init : goal.loop-i-init
 loop-i-init c = rw all_below_zero

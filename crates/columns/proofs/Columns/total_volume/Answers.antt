@@ -3,7 +3,7 @@ use native.Mathlib.Numerals.{add-one}
 use native.Mathlib.Omega.{arith}
 use borrow.Author.Rules.{rules}
 use Rattle.columns.proofs.Accounts.{sum_below_zero, sum_below_suc}
-use Rattle.columns.proofs.columns.Columns.total_volume.Goals as goal
+use Rattle.columns.proofs.Columns.total_volume.Goals as goal
 
 pub loop-volume-init : goal.loop-volume-init
 loop-volume-init c = (omega arith, rw sum_below_zero)
