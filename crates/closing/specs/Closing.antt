@@ -1,7 +1,8 @@
 -- What a close does to the account columns: document 01, "A trade date, call by call".
 use Rattle.std.specs.Prelude.{List, ℕ, ◌*ℤ◌, ◌+ℤ◌, ◌-ℤ◌, pos, ℤ}
+use lib.ListN.{replicate}
 use Rattle.figures.specs.declared.Figures.{Figures}
-use Rattle.columns.specs.Columns.{entry}
+use Rattle.columns.specs.{declared.Columns.Columns, Columns.entry, Columns.table}
 
 -- 01: "cash rises by (position × P − opening position × previous price − cost) × size + position × amount × 100"
 abbrev pub posting : Figures → ℤ → ℤ → ℤ → ℤ
@@ -11,3 +12,23 @@ posting f position opening cost =
 -- the cash of account j after it, from the four columns
 abbrev pub posted : Figures → List ℤ → List ℤ → List ℤ → List ℤ → ℕ → ℤ
 posted f opening position cost cash j = entry cash j +ℤ posting f (entry position j) (entry opening j) (entry cost j)
+
+-- the columns of n accounts with that cash
+abbrev pub posted_columns : ℕ → Figures → Columns → Columns
+posted_columns n f c = record {
+  opening = c.opening;
+  position = c.position;
+  cost = c.cost;
+  volume = c.volume;
+  cash = table n (posted f c.opening c.position c.cost c.cash);
+}
+
+-- 01: "present positions become opening ones, … and the day's figures (… v, cost …) … start empty"
+abbrev pub closed_columns : ℕ → Figures → Columns → Columns
+closed_columns n f c = record {
+  opening = c.position;
+  position = c.position;
+  cost = replicate n (pos 0);
+  volume = replicate n 0;
+  cash = (posted_columns n f c).cash;
+}

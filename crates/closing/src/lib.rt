@@ -1,23 +1,30 @@
-// The close of a day, on the figures by value and the lent account columns: every account's cash is posted, and the day's
-// columns start empty.
-#![tactic(auto)]
+// The close of a day, on the lent figures and columns of a book: every account's cash is posted, and the day's columns start
+// empty.
+#![tactic(auto, unfolding(outcomes::specs::Effects::fixing_of))]
 
 ghost use Rattle.std.specs.Prelude.{◌≡◌};
-ghost use Rattle.columns.specs.Columns.{accounts, table};
-ghost use Rattle.closing.specs.Closing.{posted};
+ghost use Rattle.refusals.specs.Refusals.{number_of};
+ghost use Rattle.columns.specs.Columns.{accounts};
+ghost use Rattle.closing.specs.Closing.{posted_columns};
 ghost use Rattle.closing.specs.Closing.{posting as Closing·posting};
 ghost use Rattle.closing.specs.Inner.{Postable, Closable, CloseAnswered};
 
-use columns::ACCOUNTS;
-use figures::{Figures, Outcome};
+use columns::{ACCOUNTS, Account, Columns};
+use figures::Figures;
 use outcomes::closed_day;
-use refusals::close_code;
+use refusals::Refusal;
 
 // What a close adds to an account's cash. Numbers within their limits are required, so that the sums fit.
-fn posting(figures: Figures, opening: i64, position: i64, cost: i64) -> i64
-    requires { Postable figures opening position cost }
-    ensures { result ≡ Closing·posting figures position opening cost }
+fn posting(figures: &Figures, account: Account) -> i64
+    requires { Postable figures.now account }
+    ensures { result ≡ Closing·posting figures.now account.position account.opening account.cost }
 {
+    let Account {
+        opening,
+        position,
+        cost,
+        ..
+    } = account;
     let price = figures.day.fixed.price as i64;
     let previous = figures.previous.price as i64;
     let size = figures.size as i64;
@@ -26,47 +33,25 @@ fn posting(figures: Figures, opening: i64, position: i64, cost: i64) -> i64
 }
 
 // Every account's cash is raised by its posting.
-fn post(
-    figures: Figures,
-    opening: &[i64; ACCOUNTS],
-    position: &[i64; ACCOUNTS],
-    cost: &[i64; ACCOUNTS],
-    cash: &mut [i64; ACCOUNTS],
-)
-    requires { Closable figures opening.now position.now cost.now cash.old }
-    ensures { cash.new
-        ≡ table accounts (posted figures opening.now position.now cost.now cash.old) }
+fn post(figures: &Figures, columns: &mut Columns)
+    requires { Closable figures.now columns.old }
+    ensures { columns.new ≡ posted_columns accounts figures.now columns.old }
 {
-    let mut i: usize = 0;
-    while i < ACCOUNTS {
-        let o = opening[i];
-        let p = position[i];
-        let c = cost[i];
-        cash[i] = cash[i] + posting(figures, o, p, c);
-        i += 1;
+    for i in 0..ACCOUNTS {
+        columns.cash[i] += posting(figures, columns.account(i));
     }
 }
 
-// Any close: a refusal with its number, or the columns and the figures after it.
-pub fn close_on(
-    figures: Figures,
-    opening: &mut [i64; ACCOUNTS],
-    position: &[i64; ACCOUNTS],
-    cost: &mut [i64; ACCOUNTS],
-    volume: &mut [u32; ACCOUNTS],
-    cash: &mut [i64; ACCOUNTS],
-) -> Outcome
-    requires { Closable figures opening.old position.now cost.old cash.old }
-    ensures { CloseAnswered accounts figures opening.old position.now cost.old volume.old cash.old
-        result opening.new cost.new volume.new cash.new }
+// Any close: a refusal, which leaves figures and columns as they are, or both changed.
+pub fn close(figures: &mut Figures, columns: &mut Columns) -> Result<(), Refusal>
+    requires { Closable figures.old columns.old }
+    ensures { CloseAnswered accounts figures.old columns.old result figures.new columns.new }
 {
-    let code = close_code(figures.closed, !(figures.day.fixed.price != 0));
-    if code != 0 {
-        return Outcome::numbered(figures, code);
-    }
-    post(figures, opening, position, cost, cash);
-    *opening = *position;
-    *cost = [0; ACCOUNTS];
-    *volume = [0; ACCOUNTS];
-    closed_day(figures)
+    refusals::close(figures.closed, figures.day.fixed.price == 0)?;
+    post(figures, columns);
+    columns.opening = columns.position;
+    columns.cost = [0; ACCOUNTS];
+    columns.volume = [0; ACCOUNTS];
+    closed_day(figures);
+    Ok(())
 }

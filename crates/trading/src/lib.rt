@@ -1,61 +1,41 @@
-// A trade, on the figures by value and the three account columns that it changes, which are lent.
-#![tactic(auto)]
+// A trade, on the lent figures and columns of a book.
+#![tactic(auto, unfolding(outcomes::specs::Effects::fixing_of))]
 
 ghost use Rattle.std.specs.Prelude.{◌≡◌};
+ghost use Rattle.refusals.specs.Refusals.{number_of};
 ghost use Rattle.columns.specs.Columns.{accounts};
 ghost use Rattle.columns.specs.Limits.{most_position};
-ghost use Rattle.trading.specs.Trading.{trade_refusal};
 ghost use Rattle.counterparties.specs.Inner.{Exchangeable, Countable};
+ghost use Rattle.trading.specs.Trading.{trade_refusal};
 ghost use Rattle.trading.specs.Inner.{Tradable, TradeAnswered};
 
 use calls::Trade;
-use columns::ACCOUNTS;
+use columns::Columns;
 use counterparties::effects::{count, exchange};
 use counterparties::limits::{position_stays, volume_stays};
-use figures::{Figures, Outcome};
+use figures::Figures;
+use refusals::Refusal;
 
-// The number of a trade's refusal, 0 for none.
-fn trade_code(
-    figures: Figures,
-    position: &[i64; ACCOUNTS],
-    volume: &[u32; ACCOUNTS],
-    t: Trade,
-) -> u8
-    requires { Exchangeable position.now t most_position × Countable volume.now t }
-    ensures { result ≡ trade_refusal accounts figures position.now volume.now t }
+// The refusal of a trade, by its values and then by its accounts.
+fn test(figures: &Figures, columns: &Columns, t: Trade) -> Result<(), Refusal>
+    requires { Exchangeable columns.now.position t most_position × Countable columns.now.volume t }
+    ensures { number_of result ≡ trade_refusal accounts figures.now columns.now t }
 {
-    let code = refusals::trade_code(figures.closed, figures.halted, t);
-    if code != 0 {
-        return code;
-    }
-    if !volume_stays(volume, t) {
-        return 7;
-    }
-    if !position_stays(position, t) {
-        return 8;
-    }
-    0
+    refusals::trade(figures.closed, figures.halted, t)?;
+    Refusal::Volume.when(!volume_stays(&columns.volume, t))?;
+    Refusal::Position.when(!position_stays(&columns.position, t))
 }
 
-// Any trade: a refusal with its number, or the columns changed and the figures after it.
-pub fn trade_on(
-    figures: Figures,
-    position: &mut [i64; ACCOUNTS],
-    cost: &mut [i64; ACCOUNTS],
-    volume: &mut [u32; ACCOUNTS],
-    t: Trade,
-) -> Outcome
-    requires { Tradable figures position.old cost.old volume.old t }
-    ensures { TradeAnswered accounts figures position.old cost.old volume.old t
-        result position.new cost.new volume.new }
+// Any trade: a refusal, which leaves figures and columns as they are, or both changed.
+pub fn trade(figures: &mut Figures, columns: &mut Columns, t: Trade) -> Result<(), Refusal>
+    requires { Tradable figures.old columns.old t }
+    ensures { TradeAnswered accounts figures.old columns.old t result figures.new columns.new }
 {
-    let code = trade_code(figures, position, volume, t);
-    if code != 0 {
-        return Outcome::numbered(figures, code);
-    }
-    let quantity = t.quantity as u64;
-    exchange(position, t, quantity);
-    count(volume, t);
-    exchange(cost, t, quantity * t.price as u64);
-    outcomes::traded(figures, t)
+    test(figures, columns, t)?;
+    let quantity = u64::from(t.quantity);
+    exchange(&mut columns.position, t, quantity);
+    count(&mut columns.volume, t);
+    exchange(&mut columns.cost, t, quantity * u64::from(t.price));
+    outcomes::traded(figures, t);
+    Ok(())
 }

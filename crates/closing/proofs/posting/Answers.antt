@@ -8,16 +8,16 @@ use Rattle.prices.proofs.Prices.{price_most}
 use Rattle.figures.specs.Figures.{tenth}
 use Rattle.day.specs.Limits.{most_amount}
 use Rattle.figures.proofs.Held.{held_figures, size_most}
+use Rattle.columns.specs.declared.Account.{Account}
 use Rattle.columns.specs.Limits.{most_position, most_volume}
+use Rattle.figures.specs.declared.Figures.{Figures}
+use Rattle.closing.specs.Inner.{Postable}
 use Rattle.closing.proofs.posting.Goals as goal
-use Rattle.closing.proofs.posting.Goals.{Start}
 
 within :
-    (s : Start) → let a = s.args in let f = a.figures in
-    Within (val a.position ∷ nat f.day.fixed.price ∷ val a.opening ∷ nat f.previous.price ∷ val a.cost ∷ nat f.size ∷ val f.day.fixed.amount ∷ []) (most_position ∷ largest_price ∷ most_position ∷ largest_price ∷ most_volume * largest_price ∷ tenth ∷ most_amount ∷ [])
-within s =
-    let f = s.args.figures in
-    let p = s.requires in
+    (f : Figures) (a : Account) → Postable f a
+    → Within (val a.position ∷ nat f.day.fixed.price ∷ val a.opening ∷ nat f.previous.price ∷ val a.cost ∷ nat f.size ∷ val f.day.fixed.amount ∷ []) (most_position ∷ largest_price ∷ most_position ∷ largest_price ∷ most_volume * largest_price ∷ tenth ∷ most_amount ∷ [])
+within f a p =
     let h = held_figures f p.figures in
     p.position_size ▹ price_most f.day.fixed.price h.day.price ▹ p.opening_size ▹ price_most f.previous.price h.price ▹ p.cost_size ▹ size_most f.size h.size ▹ h.day.amount ▹ done
 
@@ -34,28 +34,28 @@ abbrev funding : Op
 funding = mul (mul (arg 0) (arg 6)) (lit (pos 100))
 
 pub overflow_mul-result : goal.overflow_mul-result
-overflow_mul-result c = safe (within c.before.before.before) value tt
+overflow_mul-result c = safe (within c.args.figures.now c.args.account c.requires) value tt
 
 pub overflow_mul-result-2 : goal.overflow_mul-result-2
-overflow_mul-result-2 c = safe (within c.before.before.before) before tt
+overflow_mul-result-2 c = safe (within c.args.figures.now c.args.account c.requires) before tt
 
 pub overflow_sub-result : goal.overflow_sub-result
-overflow_sub-result c = safe (within c.before.before.before) (sub value before) tt
+overflow_sub-result c = safe (within c.args.figures.now c.args.account c.requires) (sub value before) tt
 
 pub overflow_sub-result-2 : goal.overflow_sub-result-2
-overflow_sub-result-2 c = safe (within c.before.before.before) gain tt
+overflow_sub-result-2 c = safe (within c.args.figures.now c.args.account c.requires) gain tt
 
 pub overflow_mul-result-3 : goal.overflow_mul-result-3
-overflow_mul-result-3 c = safe (within c.before.before.before) (mul gain (arg 5)) tt
+overflow_mul-result-3 c = safe (within c.args.figures.now c.args.account c.requires) (mul gain (arg 5)) tt
 
 pub overflow_mul-result-4 : goal.overflow_mul-result-4
-overflow_mul-result-4 c = safe (within c.before.before.before.before.before) (mul (arg 0) (arg 6)) tt
+overflow_mul-result-4 c = safe (within c.args.figures.now c.args.account c.requires) (mul (arg 0) (arg 6)) tt
 
 pub overflow_mul-result-5 : goal.overflow_mul-result-5
-overflow_mul-result-5 c = safe (within c.before.before.before.before.before) funding tt
+overflow_mul-result-5 c = safe (within c.args.figures.now c.args.account c.requires) funding tt
 
 pub overflow_add-result : goal.overflow_add-result
-overflow_add-result c = safe (within c.before.before.before.before.before) (add (mul gain (arg 5)) funding) tt
+overflow_add-result c = safe (within c.args.figures.now c.args.account c.requires) (add (mul gain (arg 5)) funding) tt
 
 pub returns : goal.returns
-returns c = runs (within c.before.before.before.before.before) (add (mul gain (arg 5)) funding) tt
+returns c = runs (within c.args.figures.now c.args.account c.requires) (add (mul gain (arg 5)) funding) tt
