@@ -2,6 +2,7 @@
 use Rattle.std.specs.Prelude.{ℕ, ◌+◌, ◌*◌, List, get_or}
 use Rattle.calls.specs.declared.Call.TheVariants as call
 use Rattle.calls.specs.declared.{Market.Market, Trade.Trade, Call.Call}
+use Rattle.calls.specs.Trade.{kind_of}
 use Rattle.tags.specs.declared.Tag.{Tag}
 use Rattle.tags.specs.declared.Tag.TheVariants as tag
 
@@ -21,7 +22,7 @@ abbrev pub trade_at : List ℕ → ℕ → Trade
 trade_at file body = record {
   buyer = byte_at file body;
   seller = byte_at file (body + 1);
-  kind = byte_at file (body + 2);
+  kind = kind_of (byte_at file (body + 2));
   quantity = four_bytes file (body + 3);
   price = four_bytes file (body + 7);
 }

@@ -1,28 +1,26 @@
 // The calls that the bodies of records bring.
 #![tactic(auto)]
 
-ghost use Rattle.std.specs.Prelude.{◌≡◌, ◌+◌, ◌≤◌, ◌<◌, length};
+ghost use Rattle.std.specs.Prelude.{◌≡◌, ◌+◌, ◌≤◌, length};
 ghost use Rattle.tags.specs.Tags.{body_length};
 ghost use Rattle.bodies.specs.Body.{two_bytes, four_bytes, trade_at, quote_at, call_of};
 
-use calls::{Call, Market, Trade};
+use calls::{Call, Kind, Market, Trade};
 use tags::Tag;
 
 // Numbers of two and of four bytes, which are required to lie within the file.
-pub fn two_bytes(file: &[u8], at: usize) -> usize
+pub fn two_bytes(file: &[u8], at: usize) -> u16
     requires { at + 2 ≤ length file.now }
-    ensures { (result ≡ two_bytes file.now at) × (result < 65536) }
+    ensures { result ≡ two_bytes file.now at }
 {
-    let high = file[at] as usize;
-    let low = file[at + 1] as usize;
-    high * 256 + low
+    u16::from_be_bytes([file[at], file[at + 1]])
 }
 
 pub fn four_bytes(file: &[u8], at: usize) -> u32
     requires { at + 4 ≤ length file.now }
     ensures { result ≡ four_bytes file.now at }
 {
-    (two_bytes(file, at) * 65536 + two_bytes(file, at + 2)) as u32
+    u32::from_be_bytes([file[at], file[at + 1], file[at + 2], file[at + 3]])
 }
 
 pub fn trade_at(file: &[u8], body: usize) -> Trade
@@ -32,7 +30,7 @@ pub fn trade_at(file: &[u8], body: usize) -> Trade
     Trade {
         buyer: file[body],
         seller: file[body + 1],
-        kind: file[body + 2],
+        kind: Kind::from(file[body + 2]),
         quantity: four_bytes(file, body + 3),
         price: four_bytes(file, body + 7),
     }
@@ -61,6 +59,6 @@ pub fn call_of(file: &[u8], tag: Tag, body: usize) -> Call
         Tag::Resume => Call::Resume,
         Tag::Fix => Call::Fix(four_bytes(file, body)),
         Tag::Close => Call::Close,
-        Tag::DayLength => Call::DayLength(two_bytes(file, body) as u32),
+        Tag::DayLength => Call::DayLength(u32::from(two_bytes(file, body))),
     }
 }

@@ -3,7 +3,7 @@
 
 ghost use Rattle.std.specs.Prelude.{◌≡◌};
 ghost use Rattle.calls.specs.Market.{two_sided, uncrossed, as_minute, is_valid, market_holds, minute_market_holds};
-ghost use Rattle.calls.specs.Trade.{trade_outside};
+ghost use Rattle.calls.specs.Trade.{kind_of, trade_outside};
 ghost use Rattle.calls.specs.Length.{is_length};
 
 use funding::{MOST_MINUTES, Terms};
@@ -24,13 +24,36 @@ pub struct Market {
     pub offer: u32,
 }
 
+// The kind of a trade.
+#[derive(Clone, Copy, Debug, PartialEq, Eq)]
+pub enum Kind {
+    Simple,
+    // spread against spread
+    Spread,
+    Block,
+    // a number that stands for no kind, which no accepted trade has
+    Other,
+}
+
+impl From<u8> for Kind {
+    ghost from_gives = { λ number kind. kind ≡ kind_of number };
+
+    fn from(number: u8) -> Kind {
+        match number {
+            0 => Kind::Simple,
+            1 => Kind::Spread,
+            2 => Kind::Block,
+            _ => Kind::Other,
+        }
+    }
+}
+
 // A trade.
 #[derive(Clone, Copy)]
 pub struct Trade {
     pub buyer: u8,
     pub seller: u8,
-    // simple, spread against spread, or block
-    pub kind: u8,
+    pub kind: Kind,
     pub quantity: u32,
     pub price: u32,
 }
@@ -104,12 +127,6 @@ impl Market {
 }
 
 impl Trade {
-    pub const SIMPLE: u8 = 0;
-
-    pub const SPREAD: u8 = 1;
-
-    pub const BLOCK: u8 = 2;
-
     // Whether a value other than an account is outside its field.
     pub fn is_outside(self) -> bool
         ensures { result ≡ trade_outside self }
@@ -120,9 +137,11 @@ impl Trade {
         if !prices::is_price(self.price) {
             return true;
         }
-        if self.kind == Trade::SIMPLE {
-            return !prices::is_ticked(self.price);
+        match self.kind {
+            Kind::Simple => !prices::is_ticked(self.price),
+            Kind::Spread => false,
+            Kind::Block => self.quantity < LEAST_BLOCK,
+            Kind::Other => true,
         }
-        (Trade::BLOCK < self.kind) | ((self.kind == Trade::BLOCK) & (self.quantity < LEAST_BLOCK))
     }
 }

@@ -4,7 +4,7 @@ use lib.{Dec.leb, Dec.ltb, Dec.eqb, IntN.pos}
 use Rattle.prices.specs.Price.{is_present}
 use Rattle.funding.specs.Minute.{Minute, futures_price}
 use Rattle.settlement.specs.declared.FinalMinute.{FinalMinute}
-use Rattle.calls.specs.{declared.Market.Market, declared.Trade.Trade, Market.no_market, Trade.simple, Length.full_day}
+use Rattle.calls.specs.{declared.Market.Market, declared.Trade.Trade, Market.no_market, Trade.is_simple, Length.full_day}
 use Rattle.day.specs.declared.{Day.Day, Markets.Markets}
 
 -- its minutes: 02-1, "the last minute in document 01 is the day's own everywhere"
@@ -41,7 +41,7 @@ in_last_minute length ended = eqb (ended + 1) length
 
 -- 01: "A kind 0 trade after minute end 1,319 and before 1,320", on a full day
 abbrev pub is_final : ℕ → ℕ → Trade → Bool
-is_final length ended t = in_last_minute length ended && eqb t.kind simple
+is_final length ended t = in_last_minute length ended && is_simple t.kind
 
 -- 01: "adds its quantity to n and quantity × price to the gross"
 abbrev pub with_trade : FinalMinute → Trade → FinalMinute

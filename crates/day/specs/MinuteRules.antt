@@ -3,14 +3,14 @@
 use mathlib.Core.{Path.◌≡◌, Bool.true, Bool.false}
 use Rattle.std.specs.Prelude.{ℕ}
 use Rattle.funding.specs.Terms.{standard_terms}
-use Rattle.calls.specs.{declared.Market.Market, declared.Trade.Trade, Market.no_market, Market.as_minute, Market.is_valid, Length.full_day, Length.short_day}
+use Rattle.calls.specs.{declared.Market.Market, declared.Trade.Trade, Market.no_market, Market.as_minute, Market.is_valid, Trade.kind_of, Length.full_day, Length.short_day}
 use Rattle.day.specs.Day.{is_final}
 
 abbrev market : ℕ → ℕ → Market
 market bid offer = record { bid = bid; offer = offer }
 
 abbrev trade_of : ℕ → Trade
-trade_of kind = record { buyer = 0; seller = 1; kind = kind; quantity = 1; price = 40000 }
+trade_of number = record { buyer = 0; seller = 1; kind = kind_of number; quantity = 1; price = 40000 }
 
 -- 01: "the minute is valid when the book isn't halted, the minute's market (b, a) exists, u is not 0, and 400 × (a − b) ≤ a + b"
 pub record Validity : Type 0 where

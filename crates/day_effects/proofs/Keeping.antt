@@ -15,7 +15,7 @@ use lib.Dec.{ltb, eqb}
 use lib.IntN.{nat_abs}
 use borrow.Author.Tests.{eqb-true, not-false}
 use Rattle.integers.proofs.Tests.{tests, by_test, both_true, either, ◌and◌, each, none}
-use Rattle.prices.specs.Price.{least_price, largest_price, is_price, is_ticked, is_present, none_or_price}
+use Rattle.prices.specs.Price.{least_price, largest_price, is_price, is_present, none_or_price}
 use Rattle.funding.specs.Minute.{within_spread, futures_price, basis_of, accrued, weighted_limit, Accrues}
 use Rattle.funding.specs.declared.Terms.{Terms}
 use Rattle.prices.proofs.Prices.{price_to, the_price}
@@ -24,7 +24,7 @@ use Rattle.calls.specs.declared.Market.{Market}
 use Rattle.calls.specs.declared.Trade.{Trade}
 use Rattle.calls.specs.Market.{no_market, two_sided, as_minute, is_valid, market_holds, minute_market_holds}
 use Rattle.calls.specs.Length.{full_day, is_length}
-use Rattle.calls.specs.Trade.{simple, block, most_quantity, least_block, trade_outside}
+use Rattle.calls.specs.Trade.{most_quantity, kind_outside, trade_outside}
 use Rattle.day.specs.declared.Day.{Day}
 use Rattle.day.specs.Day.{day_length, is_fixed, forbids_length, in_last_minute, minute_of}
 use Rattle.day_effects.specs.Effects.{with_markets, minute_ended, with_minutes, next_minute, begun, with_length}
@@ -73,12 +73,10 @@ pub record TradeFields (t : Trade) : Type 0 where
 pub trade_fields : (t : Trade) → trade_outside t ≡ false → TradeFields t
 trade_fields t h =
     let v =
-    none (ltb block t.kind)
-    (eqb t.quantity 0 ∷ ltb most_quantity t.quantity ∷ (eqb t.kind block && ltb t.quantity least_block) ∷ not (is_price t.price)
-    ∷ (eqb t.kind simple && not (is_ticked t.price)) ∷ []) h in
-    let price = not-false (is_price t.price) (v 4) in
+    none (eqb t.quantity 0) (ltb most_quantity t.quantity ∷ not (is_price t.price) ∷ kind_outside t.kind t ∷ []) h in
+    let price = not-false (is_price t.price) (v 2) in
     let p = price_to t.price price in
-    record { quantity = omega (tests, v 2); price = price; low = omega (arith, mul-le-mul_left t.quantity p.0); high = mul-le-mul_left t.quantity p.1 }
+    record { quantity = omega (tests, v 1); price = price; low = omega (arith, mul-le-mul_left t.quantity p.0); high = mul-le-mul_left t.quantity p.1 }
 
 -- ---- a minute's end
 

@@ -9,7 +9,7 @@ ghost use Rattle.day_effects.specs.Effects.{quoted as Effects·quoted};
 ghost use Rattle.day_effects.specs.Effects.{traded as Effects·traded};
 ghost use Rattle.day_effects.specs.Inner.{RoomForTrade, Endable};
 
-use calls::{Market, Trade};
+use calls::{Kind, Market, Trade};
 use day::{Day, Fixed, Markets, Trades};
 use settlement::FinalMinute;
 
@@ -50,7 +50,7 @@ pub fn traded(day: Day, t: Trade) -> Day
     ensures { result ≡ with_trades day (Effects·traded day t) }
 {
     let mut after = day;
-    if day.is_in_last_minute() & (t.kind == Trade::SIMPLE) {
+    if day.is_in_last_minute() & (t.kind == Kind::Simple) {
         let trades = Trades {
             last: t.price,
             settling: FinalMinute {

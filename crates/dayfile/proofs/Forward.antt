@@ -10,16 +10,16 @@ use borrow.Author.Tests.{ltb-false}
 use lib.ListN.{length}
 use lib.Dec.{ltb, leb, eqb}
 use Rattle.integers.proofs.Tests.{by_test}
-use Rattle.tags.specs.declared.Tagged.{Tagged}
-use Rattle.tags.specs.declared.Tagged.TheVariants as tagged
+use Rattle.std.specs.Prelude.{Option, Some, None}
+use Rattle.tags.specs.declared.Tag.{Tag}
 use Rattle.tags.specs.Tags.{tag_of, body_length}
 use Rattle.bodies.specs.Body.{byte_at}
 use Rattle.dayfile.specs.declared.Read.{Read}
 use Rattle.dayfile.specs.Record.{stated_length, next_at, complete, read_at, Onward, Forward}
 
-complete_onward : (file : List ℕ) (at : ℕ) (t : Tagged) → next_at file at ≤ length file → Onward file at (complete file at t)
-complete_onward file at tagged.Unknown h = (omega arith, h)
-complete_onward file at (tagged.Known t) h =
+complete_onward : (file : List ℕ) (at : ℕ) (t : Option Tag) → next_at file at ≤ length file → Onward file at (complete file at t)
+complete_onward file at None h = (omega arith, h)
+complete_onward file at (Some t) h =
     by_test (eqb (stated_length file at) (body_length t)) (Onward file at) (λ _. (omega arith, h)) (λ _. (omega arith, h))
 
 pub forward : Forward

@@ -17,8 +17,7 @@ use lib.ListN.{length}
 use Rattle.integers.proofs.Tests.{tests, both_true}
 use Rattle.tags.specs.declared.Tag.{Tag}
 use Rattle.tags.specs.declared.Tag.TheVariants as tag
-use Rattle.tags.specs.declared.Tagged.{Tagged}
-use Rattle.tags.specs.declared.Tagged.TheVariants as tagged
+use Rattle.std.specs.Prelude.{Option, Some, None}
 use Rattle.tags.specs.Tags.{tag_of, byte_of, body_length}
 use Rattle.bodies.specs.Body.{byte_at, call_of}
 use Rattle.dayfile.specs.declared.Read.TheVariants as read
@@ -37,16 +36,16 @@ module _ (file : List ℕ) (at : ℕ) where
   unfolding read_at
   whole h = simp (lt-leb (length file) at (omega arith), le-ltb (length file) (next_at file at) h)
 
-  pub right_length : (t : Tag) → tag_of (byte_at file at) ≡ tagged.Known t → stated_length file at ≡ body_length t
+  pub right_length : (t : Tag) → tag_of (byte_at file at) ≡ Some t → stated_length file at ≡ body_length t
       → complete file at (tag_of (byte_at file at)) ≡ read.Known (next_at file at) (call_of file t (body_at at))
   right_length t e h = simp (e, eq-eqb (stated_length file at) (body_length t) h)
 
-  pub wrong_length : (t : Tag) → tag_of (byte_at file at) ≡ tagged.Known t → (stated_length file at ≡ body_length t → ⊥)
+  pub wrong_length : (t : Tag) → tag_of (byte_at file at) ≡ Some t → (stated_length file at ≡ body_length t → ⊥)
       → complete file at (tag_of (byte_at file at)) ≡ read.WrongLength (next_at file at)
   wrong_length t e h = simp (e, ne_eqb (stated_length file at) (body_length t) h)
 
   -- a tag's byte is read as that tag
-  byte_read : (t : Tag) → tag_of (byte_of t) ≡ tagged.Known t
+  byte_read : (t : Tag) → tag_of (byte_of t) ≡ Some t
   unfolding tag_of
   byte_read tag.Trade = refl
   byte_read tag.Quote = refl
@@ -85,9 +84,9 @@ past_end [] at h = refl
 past_end (x ∷ file) zero h = absurd (omega arith)
 past_end (x ∷ file) (suc at) h = past_end file at (omega arith)
 
-completed : (file : List ℕ) (at : ℕ) (t : Tagged) → read_number (complete file at t) ≡ cond (is_wrong_length t (stated_length file at)) 1 0
-completed file at tagged.Unknown = refl
-completed file at (tagged.Known t) = by (eqb (stated_length file at) (body_length t))
+completed : (file : List ℕ) (at : ℕ) (t : Option Tag) → read_number (complete file at t) ≡ cond (is_wrong_length t (stated_length file at)) 1 0
+completed file at None = refl
+completed file at (Some t) = by (eqb (stated_length file at) (body_length t))
   where
     by : (right : Bool)
         → read_number (cond right (read.Known (next_at file at) (call_of file t (body_at at))) (read.WrongLength (next_at file at))) ≡ cond (not right) 1 0

@@ -2,6 +2,7 @@
 use mathlib.Core.{Path.◌≡◌, List.List, List.[], List.◌∷◌, List.◌++◌}
 use Rattle.std.specs.Prelude.{ℕ}
 use Rattle.calls.specs.declared.Call.TheVariants as call
+use Rattle.calls.specs.Trade.{kind_of}
 use Rattle.dayfile.specs.declared.Read.TheVariants as read
 use Rattle.dayfile.specs.Calls.{records_of}
 
@@ -32,6 +33,6 @@ Example =
     read.Known 11 (call.Quote (record { bid = 200100; offer = 200300 }))
     ∷ read.Unknown 15
     ∷ read.WrongLength 19
-    ∷ read.Known 33 (call.Trade (record { buyer = 3; seller = 7; kind = 0; quantity = 12; price = 200200 }))
+    ∷ read.Known 33 (call.Trade (record { buyer = 3; seller = 7; kind = kind_of 0; quantity = 12; price = 200200 }))
     ∷ read.CutOff
     ∷ []

@@ -1,10 +1,9 @@
 -- What stands at a place of a day file: the format of document 01, sentence by sentence.
-use Rattle.std.specs.Prelude.{ℕ, ◌+◌, ◌≤◌}
+use Rattle.std.specs.Prelude.{ℕ, ◌+◌, ◌≤◌, Option, Some, None}
 use mathlib.Core.{List.List, Bool.Bool, Bool.false, Bool.not, Bool.cond, Bool.◌&&◌, Bool.◌||◌}
 use lib.{ListN.length, Dec.ltb, Dec.leb, Dec.eqb}
-use Rattle.tags.specs.{declared.Tag.Tag, declared.Tagged.Tagged, Tags.byte_of, Tags.tag_of, Tags.body_length}
+use Rattle.tags.specs.{declared.Tag.Tag, Tags.byte_of, Tags.tag_of, Tags.body_length}
 use Rattle.bodies.specs.Body.{byte_at, two_bytes, call_of}
-use Rattle.tags.specs.declared.Tagged.TheVariants as tagged
 use Rattle.dayfile.specs.declared.Read.{Read}
 use Rattle.dayfile.specs.declared.Read.TheVariants as read
 
@@ -19,9 +18,9 @@ abbrev pub next_at : List ℕ → ℕ → ℕ
 next_at file at = body_at at + stated_length file at
 
 -- a complete record with this tag: 01, "a known tag has a wrong length, and its body is passed over", "The reader passes over complete unknown records"
-abbrev pub complete : List ℕ → ℕ → Tagged → Read
-complete file at tagged.Unknown = read.Unknown (next_at file at)
-complete file at (tagged.Known t) =
+abbrev pub complete : List ℕ → ℕ → Option Tag → Read
+complete file at None = read.Unknown (next_at file at)
+complete file at (Some t) =
     cond (eqb (stated_length file at) (body_length t))
     (read.Known (next_at file at) (call_of file t (body_at at)))
     (read.WrongLength (next_at file at))
@@ -47,9 +46,9 @@ abbrev pub is_cut_off : List ℕ → ℕ → Bool
 is_cut_off file at = ltb at (length file) && ltb (length file) (next_at file at)
 
 -- 1: "or a known tag has a wrong length"
-abbrev pub is_wrong_length : Tagged → ℕ → Bool
-is_wrong_length tagged.Unknown stated = false
-is_wrong_length (tagged.Known t) stated = not (eqb stated (body_length t))
+abbrev pub is_wrong_length : Option Tag → ℕ → Bool
+is_wrong_length None stated = false
+is_wrong_length (Some t) stated = not (eqb stated (body_length t))
 
 -- the number of the record at a place, by the bytes there
 abbrev pub record_refusal : List ℕ → ℕ → ℕ

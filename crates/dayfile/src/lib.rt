@@ -8,7 +8,7 @@ ghost use Rattle.dayfile.specs.Record.{stated_length, complete, read_at, is_reco
 
 use bodies::{call_of, two_bytes};
 use calls::Call;
-use tags::{Tag, Tagged, body_length, byte_of, tag_of};
+use tags::Tag;
 
 // The bytes of a tag and a length.
 pub const HEAD: usize = 3;
@@ -44,7 +44,7 @@ impl Read {
 pub fn is_record_at(file: &[u8], at: usize, tag: Tag) -> bool
     ensures { result ≡ is_record_at file.now at tag }
 {
-    let length = body_length(tag);
+    let length = tag.body_length();
     let bytes = HEAD + length;
     if file.len() < bytes {
         return false;
@@ -52,10 +52,10 @@ pub fn is_record_at(file: &[u8], at: usize, tag: Tag) -> bool
     if file.len() - bytes < at {
         return false;
     }
-    if file[at] != byte_of(tag) {
+    if file[at] != u8::from(tag) {
         return false;
     }
-    two_bytes(file, at + 1) == length
+    two_bytes(file, at + 1) as usize == length
 }
 
 // The record at `at`, of the stated length, which lies within the file.
@@ -65,10 +65,10 @@ fn complete_record(file: &[u8], at: usize, stated: usize) -> Read
 {
     let body = at + HEAD;
     let next = body + stated;
-    match tag_of(file[at]) {
-        Tagged::Unknown => Read::Unknown(next),
-        Tagged::Known(tag) => {
-            if stated == body_length(tag) {
+    match Tag::try_from(file[at]) {
+        Err(_) => Read::Unknown(next),
+        Ok(tag) => {
+            if stated == tag.body_length() {
                 Read::Known(next, call_of(file, tag, body))
             } else {
                 Read::WrongLength(next)
@@ -90,7 +90,7 @@ pub fn read_record(file: &[u8], at: usize) -> Read
     if rest < HEAD {
         return Read::CutOff;
     }
-    let stated = two_bytes(file, at + 1);
+    let stated = two_bytes(file, at + 1) as usize;
     if stated <= rest - HEAD {
         complete_record(file, at, stated)
     } else {

@@ -6,7 +6,7 @@ ghost use Rattle.integers.specs.Rounding.{with_sign_of, on_tie, rounded, half_ev
 ghost use Rattle.integers.specs.Size.{within};
 
 // Where a quotient half way between two whole numbers goes.
-#[derive(Clone, Copy)]
+#[derive(Clone, Copy, Debug, PartialEq, Eq)]
 pub enum Tie {
     // to the even one
     Even,
@@ -18,14 +18,14 @@ pub enum Tie {
 pub fn magnitude(x: i64) -> u64
     ensures { result ≡ nat_abs x }
 {
-    if x < 0 { ((!x) as u64) + 1 } else { x as u64 }
+    x.unsigned_abs()
 }
 
 // Whether a signed number's size is at most a limit.
 pub fn is_within(x: i64, limit: u64) -> bool
     ensures { result ≡ within x limit }
 {
-    magnitude(x) <= limit
+    x.unsigned_abs() <= limit
 }
 
 // The whole number after q on the side of x, farther from zero. There has to be one: q is not the largest or the least.
@@ -41,7 +41,7 @@ fn tie_goes_on(q: i64, tie: Tie) -> bool
     ensures { on_tie tie (nat_abs q) ≡ nat_abs q + cond result 1 0 }
 {
     match tie {
-        Tie::Even => magnitude(q) % 2 != 0,
+        Tie::Even => q.unsigned_abs() % 2 != 0,
         Tie::Away => true,
     }
 }
@@ -55,7 +55,7 @@ pub fn rounded(x: i64, d: i64, tie: Tie) -> i64
 {
     let q = x / d;
     let r = x % d;
-    let size = magnitude(r);
+    let size = r.unsigned_abs();
     let left = d as u64 - size;
     let goes_on = (left < size) | ((left == size) & tie_goes_on(q, tie));
     if goes_on { farther(q, x) } else { q }

@@ -1,7 +1,7 @@
 // The calls, by number, which is the place of the name among the words: first those that have an answer.
 use crate::fields::FIELDS;
 use crate::numbers::{HALF, Numbers};
-use calls::Trade;
+use calls::{Kind, Trade};
 use ledger::{Answer, Book};
 
 pub const QUOTE: usize = FIELDS;
@@ -35,7 +35,7 @@ fn trade_of(n: Numbers) -> Trade {
     Trade {
         buyer: (n.first % 256) as u8,
         seller: (n.second % 256) as u8,
-        kind: (n.third % 256) as u8,
+        kind: Kind::from((n.third % 256) as u8),
         quantity: (n.fourth % HALF) as u32,
         price: (n.fifth % HALF) as u32,
     }

@@ -13,7 +13,7 @@ pub const TICK: u32 = 10;
 pub fn is_price(p: u32) -> bool
     ensures { result ≡ is_price p }
 {
-    (LEAST_PRICE <= p) & (p <= LARGEST_PRICE)
+    (LEAST_PRICE..=LARGEST_PRICE).contains(&p)
 }
 
 pub fn is_ticked(p: u32) -> bool

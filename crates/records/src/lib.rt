@@ -13,7 +13,7 @@ use dayfile::{HEAD, Read, is_record_at};
 use figures::Figures;
 use ledger::Book;
 use ledger::step::step_on;
-use tags::{Tag, body_length};
+use tags::Tag;
 use trading::trade_on;
 
 // Where a run ended: the records accepted, and the book.
@@ -102,7 +102,7 @@ fn minute_ends(
         let after = outcome.figures;
         figures = after;
         accepted = count(accepted, outcome.code);
-        at = body + body_length(Tag::MinuteEnd);
+        at = body + Tag::MinuteEnd.body_length();
     }
     Progress {
         accepted,
@@ -137,7 +137,7 @@ fn trades(
         let after = outcome.figures;
         figures = after;
         accepted = count(accepted, outcome.code);
-        at = body + body_length(Tag::Trade);
+        at = body + Tag::Trade.body_length();
     }
     Progress {
         accepted,

@@ -1,8 +1,7 @@
 -- The tags of records, and the bytes of their bodies: document 01's format, and document 02's records.
-use Rattle.std.specs.Prelude.{ℕ, cond, eqb}
-use Rattle.tags.specs.declared.{Tag.Tag, Tagged.Tagged}
+use Rattle.std.specs.Prelude.{ℕ, cond, eqb, Option, Some, None}
+use Rattle.tags.specs.declared.Tag.{Tag}
 use Rattle.tags.specs.declared.Tag.TheVariants as tag
-use Rattle.tags.specs.declared.Tagged.TheVariants as tagged
 
 -- 01: "Tag 1 trade: buyer 1 byte, seller 1, kind 1, quantity 4, price 4. Tag 2 quote: bid 4, offer 4. Tag 3 minute end: 4.
 -- Tag 4 halt, 5 resume, 7 close: 0 bytes. Tag 6 fix: 4. Other tags are unknown."; 02-1: "tag 8 with a two-byte length of day"
@@ -16,18 +15,18 @@ byte_of tag.Fix = 6
 byte_of tag.Close = 7
 byte_of tag.DayLength = 8
 
--- the tag whose byte this is
-unfoldable pub tag_of : ℕ → Tagged
+-- the tag whose byte this is, if it is a known one's
+unfoldable pub tag_of : ℕ → Option Tag
 tag_of byte =
-    cond (eqb byte (byte_of tag.Trade)) (tagged.Known tag.Trade)
-    (cond (eqb byte (byte_of tag.Quote)) (tagged.Known tag.Quote)
-    (cond (eqb byte (byte_of tag.MinuteEnd)) (tagged.Known tag.MinuteEnd)
-    (cond (eqb byte (byte_of tag.Halt)) (tagged.Known tag.Halt)
-    (cond (eqb byte (byte_of tag.Resume)) (tagged.Known tag.Resume)
-    (cond (eqb byte (byte_of tag.Fix)) (tagged.Known tag.Fix)
-    (cond (eqb byte (byte_of tag.Close)) (tagged.Known tag.Close)
-    (cond (eqb byte (byte_of tag.DayLength)) (tagged.Known tag.DayLength)
-    tagged.Unknown)))))))
+    cond (eqb byte (byte_of tag.Trade)) (Some tag.Trade)
+    (cond (eqb byte (byte_of tag.Quote)) (Some tag.Quote)
+    (cond (eqb byte (byte_of tag.MinuteEnd)) (Some tag.MinuteEnd)
+    (cond (eqb byte (byte_of tag.Halt)) (Some tag.Halt)
+    (cond (eqb byte (byte_of tag.Resume)) (Some tag.Resume)
+    (cond (eqb byte (byte_of tag.Fix)) (Some tag.Fix)
+    (cond (eqb byte (byte_of tag.Close)) (Some tag.Close)
+    (cond (eqb byte (byte_of tag.DayLength)) (Some tag.DayLength)
+    None)))))))
 
 -- the bytes of each tag's body, added up
 abbrev pub body_length : Tag → ℕ

@@ -2,7 +2,7 @@
 // were accepted: all of them.
 #![tactic(auto)]
 
-use calls::Trade;
+use calls::{Kind, Trade};
 use figures::product::Product;
 use ledger::Book;
 use std::io;
@@ -15,7 +15,7 @@ fn trade_at(place: u64) -> Trade {
     Trade {
         buyer: if forth { 1 } else { 0 },
         seller: if forth { 0 } else { 1 },
-        kind: 0,
+        kind: Kind::Simple,
         quantity: 1,
         price: 200_200,
     }

@@ -17,7 +17,7 @@ use Rattle.integers.proofs.Order.{size, fits_abs, lt_to, <ℤ-weaken}
 use Rattle.integers.proofs.Machine.{bits_pos, quot_fits, rem_fits, rem_lt, quot_rem_size, as_unsigned}
 use Rattle.integers.proofs.Rounding.{stays, goes_on}
 use Rattle.integers.proofs.rounded.Goals as goal
-use Rattle.integers.proofs.rounded.Goals.{After-magnitude-size, After-tie_goes_on, Start, Then-goes_on}
+use Rattle.integers.proofs.rounded.Goals.{After-unsigned_abs-size, After-tie_goes_on, Start, Then-goes_on}
 
 module _ (s : Start) where
   x_back : to_z w64 (of_z w64 s.args.x) ≡ s.args.x
@@ -53,10 +53,10 @@ module _ (s : Start) where
   q_is = ap₂ (λ x d. to_z w64 (of_z w64 (quot_z x d))) x_back d_back ∙ q_back
 
 -- the remainder's size, and that it is below the divisor
-size_is : (c : After-magnitude-size) → c.magnitude-size.result ≡ nat_abs (rem_z c.args.x c.args.d)
-size_is c = c.magnitude-size.ensures ∙ ap nat_abs (ap₂ (λ x d. to_z w64 (of_z w64 (rem_z x d))) (x_back c.before) (d_back c.before) ∙ r_back c.before)
+size_is : (c : After-unsigned_abs-size) → c.unsigned_abs-size.result ≡ nat_abs (rem_z c.args.x c.args.d)
+size_is c = c.unsigned_abs-size.ensures.value ∙ ap nat_abs (ap₂ (λ x d. to_z w64 (of_z w64 (rem_z x d))) (x_back c.before) (d_back c.before) ∙ r_back c.before)
 
-size_below : (c : After-magnitude-size) → c.magnitude-size.result < nat_abs c.args.d
+size_below : (c : After-unsigned_abs-size) → c.unsigned_abs-size.result < nat_abs c.args.d
 size_below c = rw (size_is c) (rem_lt c.args.x c.args.d (d_size c.before))
 
 -- what `farther` gives, after any of its two calls
@@ -98,7 +98,7 @@ module _ (c : After-tie_goes_on) where
   goes d r = ltb (nat_abs d - r) r || (eqb (nat_abs d - r) r && c.tie_goes_on.result)
 
   -- what the machine tests
-  test_is : goes (to_z w64 (of_z w64 start.args.d)) c.magnitude-size.result ≡ goes start.args.d rest
+  test_is : goes (to_z w64 (of_z w64 start.args.d)) c.unsigned_abs-size.result ≡ goes start.args.d rest
   test_is = ap₂ goes (d_back start) (size_is c.before)
 
 goes_is : (c : Then-goes_on) → let a = c.before in goes a (start a).args.d (rest a) ≡ true
