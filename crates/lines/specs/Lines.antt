@@ -1,6 +1,6 @@
 -- The lines that `funding-bench` prints: document 01, "Reports, file, program".
 use mathlib.Core.{Bool.Bool, Bool.not, Bool.cond, Bool.◌||◌, List.List, List.[], List.◌++◌}
-use Rattle.std.specs.Prelude.{ℕ, zero, suc, ◌<◌, ◌^◌}
+use Rattle.std.specs.Prelude.{ℕ, zero, suc}
 use lib.{Dec.eqb, IntN.ℤ, IntN.nat_abs}
 use Rattle.text.specs.Text.{bytes, with_number, with_signed}
 use Rattle.figures.specs.declared.Fixing.{Fixing}
@@ -31,10 +31,3 @@ printed_account account position cash = cond (is_printed position cash) (account
 unfoldable pub account_lines : ℕ → List ℤ → List ℤ → List ℕ
 account_lines zero position cash = []
 account_lines (suc n) position cash = account_lines n position cash ++ printed_account n (entry position n) (entry cash n)
-
--- ---- what the functions require: a place at which one line, or those of all accounts, can't pass 64 bits
-abbrev pub RoomForLine : ℕ → Type 0
-RoomForLine at = at < 2 ^ 63
-
-abbrev pub RoomForLines : ℕ → Type 0
-RoomForLines at = at < 2 ^ 62

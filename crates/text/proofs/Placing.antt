@@ -1,6 +1,7 @@
 -- Laws of texts put piece by piece.
 --     then, room_first, room_rest   two texts one after another
 --     in_words, nothing             one text in other words, and none
+--     puts_then, puts_in_words, puts_nothing      the same of texts put into a window
 --     length_placed, kept           the buffer keeps its length
 --     placed_over                   what was put from the text's start on is the part of it that the buffer lies over
 -- Assumes nothing.
@@ -12,7 +13,8 @@ use native.Mathlib.Omega.{arith}
 use lib.Dec.{leb}
 use lib.ListN.{length, set, drop, length-set, length-append}
 use Rattle.integers.proofs.Tests.{tests}
-use Rattle.text.specs.Text.{over, placed_byte, placed, Room, Put}
+use Rattle.text.specs.declared.Window.{Window}
+use Rattle.text.specs.Text.{over, placed_byte, placed, Room, Put, Puts}
 
 length_placed_byte : (t : Bool) (i byte : ℕ) (out : List ℕ) → length (cond t (set out i byte) out) ≡ length out
 length_placed_byte true i byte out = length-set out i byte
@@ -55,6 +57,24 @@ room_first at a b h = omega (arith, h, length-append a b)
 
 pub room_rest : (at : ℕ) (a b : List ℕ) (end : ℕ) → end ≡ at + length a → Room at (a ++ b) → Room end b
 room_rest at a b end e h = omega (arith, h, e, length-append a b)
+
+-- ---- texts put into a window
+
+pub puts_then : {first between last : Window} {a b : List ℕ} → Puts first a between → Puts between b last → Puts first (a ++ b) last
+puts_then {first} {between} {last} {a} {b} p q = record {
+  same_buffer = q.same_buffer ∙ p.same_buffer;
+  from_is = q.from_is ∙ p.from_is;
+  put = λ (room : Room first.at (a ++ b)).
+      let one = p.put (room_first first.at a b room) in
+      let two = q.put (room_rest first.at a b between.at one.end_is room) in
+      then one (subst (λ (from : ℕ). Put between.at b from between.out.now last.at last.out.now) p.from_is two);
+}
+
+pub puts_in_words : {first last : Window} {a b : List ℕ} → a ≡ b → Puts first a last → Puts first b last
+puts_in_words {first} {last} e p = subst (λ (text : List ℕ). Puts first text last) e p
+
+pub puts_nothing : (w : Window) → Puts w [] w
+puts_nothing w = record { same_buffer = refl; from_is = refl; put = λ (room : Room w.at []). nothing w.at w.from w.out.now }
 
 -- ---- the part that the buffer lies over
 

@@ -1,27 +1,23 @@
 -- Text as a list of bytes, and the part of it that a buffer holds.
 use mathlib.Core.{Path.◌≡◌, Bool.cond, List.List, List.[], List.◌∷◌, List.◌++◌}
-use Prim.Native.{Char.code, Nat.ℕ, Nat.zero, Nat.suc, Nat.◌+◌, Nat.◌-◌, Nat.◌/◌, Nat.◌%◌, Nat.◌<◌, Nat.◌≤◌, Nat.◌^◌}
+use Prim.Native.{Char.code, Nat.ℕ, Nat.◌+◌, Nat.◌-◌, Nat.◌<◌, Nat.◌^◌}
 use Prim.Native.String.{String, [] as none, ◌∷◌ as ◌before◌}
-use lib.{Dec.leb, Dec.ltb, IntN.ℤ, IntN.pos, IntN.negsuc, IntN.neg_ℤ, ListN.length, ListN.set, ListN.drop}
+use lib.{Dec.leb, IntN.ℤ, IntN.pos, IntN.neg_ℤ, ListN.length, ListN.set}
+use Rattle.std.specs.Fmt as fmt
+use Rattle.text.specs.declared.Window.{Window}
 
 -- the bytes of a text in ASCII
 abbrev pub bytes : String → List ℕ
 bytes none = []
 bytes (c before s) = code c ∷ bytes s
 
--- a number in decimal, by this many digits at most, without zeros before it
-unfoldable pub decimal_within : ℕ → ℕ → List ℕ
-decimal_within zero n = []
-decimal_within (suc most) n = cond (ltb n 10) [] (decimal_within most (n / 10)) ++ ((48 + n % 10) ∷ [])
-
--- a number of 64 bits has 20 digits at most
+-- a number in decimal, without zeros before it: what `{}` writes
 abbrev pub decimal : ℕ → List ℕ
-decimal n = decimal_within 20 n
+decimal = fmt.decimal
 
 -- a minus before a negative one
 abbrev pub signed : ℤ → List ℕ
-signed (pos n) = decimal n
-signed (negsuc n) = bytes "-" ++ decimal (suc n)
+signed = fmt.signed_decimal
 
 -- numbers to check with a pencil: proved in proofs/Examples.antt, by computing
 pub record Examples : Type 0 where
@@ -63,8 +59,8 @@ pub record Put (at : ℕ) (text : List ℕ) (from : ℕ) (out : List ℕ) (end :
   pub end_is : end ≡ at + length text
   pub out_is : after ≡ placed at text from out
 
--- the digits of a number stand at the end of a list of 20
-pub record Spelled (n start : ℕ) (digits : List ℕ) : Type 0 where
-  pub inside : start ≤ 20
-  pub twenty : length digits ≡ 20
-  pub digits_are : drop start digits ≡ decimal n
+-- a text is put into a window, wherever there is room for it: the window is then this one
+pub record Puts (first : Window) (text : List ℕ) (last : Window) : Type 0 where
+  pub same_buffer : last.out.ghost_name ≡ first.out.ghost_name
+  pub from_is : last.from ≡ first.from
+  pub put : Room first.at text → Put first.at text first.from first.out.now last.at last.out.now

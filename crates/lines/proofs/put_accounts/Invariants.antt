@@ -1,12 +1,8 @@
-use Prim.Native.Nat.{◌+◌, ◌*◌, ◌-◌, ◌≤◌}
-use Rattle.text.specs.Text.{Put}
-use Rattle.columns.specs.Columns.{accounts}
+-- The lines of the accounts before this one are put.
+use Rattle.std.proofs.Common.{length}
+use Rattle.text.specs.Text.{Puts}
 use Rattle.lines.specs.Lines.{account_lines}
-use Rattle.lines.proofs.Lengths.{longest_account}
 use Rattle.lines.proofs.put_accounts.Given as goal
 
-abbrev pub invariant-loop-i : goal.invariant-loop-i
-invariant-loop-i l = (l.i ≤ accounts) × Put l.at (account_lines l.i l.position l.cash) l.from l.initial.out l.end l.out × (l.end ≤ l.at + l.i * longest_account)
-
-abbrev pub decreases-loop-i : goal.decreases-loop-i
-decreases-loop-i l = accounts - l.i
+abbrev pub invariant-loop-account : goal.invariant-loop-account
+invariant-loop-account l = Puts l.initial.window (account_lines (length l.yielded) l.position l.cash) l.window
