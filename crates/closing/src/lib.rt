@@ -3,16 +3,14 @@
 #![tactic(auto, unfolding(outcomes::specs::Effects::fixing_of))]
 
 ghost use Rattle.std.specs.Prelude.{◌≡◌};
-ghost use Rattle.refusals.specs.Refusals.{number_of};
 ghost use Rattle.columns.specs.Columns.{accounts};
 ghost use Rattle.closing.specs.Closing.{posted_columns};
 ghost use Rattle.closing.specs.Closing.{posting as Closing·posting};
 ghost use Rattle.closing.specs.Inner.{Postable, Closable, CloseAnswered};
 
 use columns::{ACCOUNTS, Account, Columns};
-use figures::Figures;
+use figures::{Figures, Outcome};
 use outcomes::closed_day;
-use refusals::Refusal;
 
 // What a close adds to an account's cash. Numbers within their limits are required, so that the sums fit.
 fn posting(figures: &Figures, account: Account) -> i64
@@ -43,7 +41,7 @@ fn post(figures: &Figures, columns: &mut Columns)
 }
 
 // Any close: a refusal, which leaves figures and columns as they are, or both changed.
-pub fn close(figures: &mut Figures, columns: &mut Columns) -> Result<(), Refusal>
+pub fn close(figures: &mut Figures, columns: &mut Columns) -> Outcome
     requires { Closable figures.old columns.old }
     ensures { CloseAnswered accounts figures.old columns.old result figures.new columns.new }
 {
@@ -53,5 +51,5 @@ pub fn close(figures: &mut Figures, columns: &mut Columns) -> Result<(), Refusal
     columns.cost = [0; ACCOUNTS];
     columns.volume = [0; ACCOUNTS];
     closed_day(figures);
-    Ok(())
+    Ok(None)
 }

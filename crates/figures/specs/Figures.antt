@@ -4,7 +4,7 @@ use lib.{Dec.leb, Dec.eqb}
 use Rattle.integers.specs.declared.{Tie.Tie, Tie.TheVariants.Even}
 use Rattle.prices.specs.Price.{none_or_price}
 use Rattle.funding.specs.{declared.Terms.Terms, Terms.standard_terms}
-use Rattle.refusals.specs.{declared.Refusal.Refusal, Refusals.most_days, Refusals.number}
+use Rattle.refusals.specs.{declared.Refusal.Refusal, Refusals.most_days, Refusals.number, Refusals.number_of}
 use Rattle.day.specs.{Day.empty_day, Limits.day_holds}
 use Rattle.figures.specs.declared.{Figures.Figures, Fixing.Fixing}
 
@@ -34,6 +34,14 @@ pub record Outcome : Type 0 where
   pub code : ℕ
   pub fixing : Option Fixing
   pub figures : Figures
+
+-- the outcome that the answer to a call stands for, with the figures after it
+abbrev pub fixing_in : Result (Option Fixing) Refusal → Option Fixing
+fixing_in (Ok fixing) = fixing
+fixing_in (Err r) = None
+
+abbrev pub outcome_of : Result (Option Fixing) Refusal → Figures → Outcome
+outcome_of r f = record { code = number_of r; fixing = fixing_in r; figures = f }
 
 -- figures with a refusal's number, 0 for none, and no fix
 abbrev pub numbered : Figures → ℕ → Outcome

@@ -10,7 +10,7 @@ use funding::Terms;
 use integers::Tie;
 use prices::none_or_price;
 use product::Product;
-use refusals::MOST_DAYS;
+use refusals::{MOST_DAYS, Refusal};
 use settlement::Previous;
 
 pub mod product;
@@ -37,6 +37,9 @@ pub struct Fixing {
     // valid count k
     pub valid: u32,
 }
+
+// What a call comes to: a refusal, or what it found, which only a fix does.
+pub type Outcome = Result<Option<Fixing>, Refusal>;
 
 impl Figures {
     // The figures of a fresh book of this size.

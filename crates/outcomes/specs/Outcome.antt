@@ -1,11 +1,10 @@
 -- What a call makes of the figures.
 use mathlib.Core.{Path.◌≡◌, Bool.Bool, Bool.true, Bool.false, Bool.not, Bool.cond, List.List}
-use Rattle.std.specs.Prelude.{ℕ, eqb, None, Result}
-use Rattle.std.specs.Result.{result_ok}
+use Rattle.std.specs.Prelude.{ℕ, eqb, None}
 use Rattle.calls.specs.{declared.Call.Call, Calls.on_minute_end, Calls.on_fix, Calls.on_close, Calls.on_day_length}
-use Rattle.refusals.specs.{declared.Refusal.Refusal, Refusals.Accounts, Refusals.no_accounts, Refusals.sentences, Refusals.first_met, Refusals.number_of}
+use Rattle.refusals.specs.Refusals.{Accounts, no_accounts, sentences, first_met}
 use Rattle.day.specs.{declared.Day.Day, Day.is_fixed, Day.forbids_fix, Day.forbids_minute_end, Day.forbids_length, Limits.final_holds}
-use Rattle.figures.specs.{declared.Figures.Figures, declared.Fixing.Fixing, Figures.Outcome, Figures.figures_hold, Fixing.fix_price}
+use Rattle.figures.specs.{declared.Figures.Figures, Figures.Outcome, Figures.figures_hold, Fixing.fix_price}
 use Rattle.outcomes.specs.Effects.{figures_after, fixing_of}
 
 -- 3: "a minute end after" the last "or after a fix; a fix before" it "or twice; a close without a fix"; 02-1: "a late or second record"
@@ -32,10 +31,6 @@ outcome_by number f c = record {
 -- and a call whose accounts give no refusal
 abbrev pub outcome : Figures → Call → Outcome
 outcome f c = outcome_by (figures_refusal f c) f c
-
--- the outcome that the answer to a fix stands for, with the figures after it
-abbrev pub outcome_of_fix : Result Fixing Refusal → Figures → Outcome
-outcome_of_fix r f = record { code = number_of r; fixing = result_ok r; figures = f }
 
 -- an accepted call leaves figures within their limits, where the accounts' v add up to so much: proved in proofs/Keeping.antt
 abbrev pub FiguresKept : Type 0

@@ -2,18 +2,16 @@
 #![tactic(auto, unfolding(crate::specs::Effects::figures_after, crate::specs::Effects::fixing_of))]
 
 ghost use Rattle.std.specs.Prelude.{◌≡◌, true, ◌≤◌};
-ghost use Rattle.std.specs.Result.{result_ok};
-ghost use Rattle.refusals.specs.Refusals.{most_days, number_of};
+ghost use Rattle.refusals.specs.Refusals.{most_days};
 ghost use Rattle.day_effects.specs.Inner.{RoomForTrade};
-ghost use Rattle.figures.specs.Figures.{numbered, figures_hold};
+ghost use Rattle.figures.specs.Figures.{outcome_of, figures_hold};
 ghost use Rattle.figures.specs.Fixing.{Fixable};
 ghost use Rattle.outcomes.specs.Effects.{with_begun_day, figures_after};
-ghost use Rattle.outcomes.specs.Outcome.{outcome, outcome_of_fix};
+ghost use Rattle.outcomes.specs.Outcome.{outcome};
 
 use calls::{Call, Market, Trade};
 use day::Day;
-use figures::{Figures, Fixing};
-use refusals::Refusal;
+use figures::{Figures, Outcome};
 use settlement::Previous;
 
 // Sets the day, which has begun with this call.
@@ -24,12 +22,12 @@ fn begin(figures: &mut Figures, day: Day)
     figures.day.session.begun = true;
 }
 
-pub fn quote(figures: &mut Figures, market: Market) -> Result<(), Refusal>
-    ensures { numbered figures.new (number_of result) ≡ outcome figures.old (Call.Quote market) }
+pub fn quote(figures: &mut Figures, market: Market) -> Outcome
+    ensures { outcome_of result figures.new ≡ outcome figures.old (Call.Quote market) }
 {
     refusals::quote(figures.closed, figures.halted, market)?;
     begin(figures, day_effects::quoted(figures.day, market));
-    Ok(())
+    Ok(None)
 }
 
 // An accepted trade. Room for it in n and in the gross is required.
@@ -40,38 +38,38 @@ pub fn traded(figures: &mut Figures, t: Trade)
     begin(figures, day_effects::traded(figures.day, t));
 }
 
-pub fn halt(figures: &mut Figures) -> Result<(), Refusal>
-    ensures { numbered figures.new (number_of result) ≡ outcome figures.old Call.Halt }
+pub fn halt(figures: &mut Figures) -> Outcome
+    ensures { outcome_of result figures.new ≡ outcome figures.old Call.Halt }
 {
     refusals::halt(figures.closed, figures.halted)?;
     figures.halted = true;
     begin(figures, day_effects::without_markets(figures.day));
-    Ok(())
+    Ok(None)
 }
 
-pub fn resume(figures: &mut Figures) -> Result<(), Refusal>
-    ensures { numbered figures.new (number_of result) ≡ outcome figures.old Call.Resume }
+pub fn resume(figures: &mut Figures) -> Outcome
+    ensures { outcome_of result figures.new ≡ outcome figures.old Call.Resume }
 {
     refusals::resume(figures.closed, figures.halted)?;
     figures.halted = false;
     begin(figures, figures.day);
-    Ok(())
+    Ok(None)
 }
 
-pub fn day_length(figures: &mut Figures, minutes: u32) -> Result<(), Refusal>
-    ensures { numbered figures.new (number_of result) ≡ outcome figures.old (Call.DayLength minutes) }
+pub fn day_length(figures: &mut Figures, minutes: u32) -> Outcome
+    ensures { outcome_of result figures.new ≡ outcome figures.old (Call.DayLength minutes) }
 {
     let mut day = figures.day;
     refusals::day_length(figures.closed, day.session.begun, minutes)?;
     day.session.length = minutes;
     begin(figures, day);
-    Ok(())
+    Ok(None)
 }
 
 // Figures within their limits are required, so that the weighted sum fits.
-pub fn minute_end(figures: &mut Figures, index: u32) -> Result<(), Refusal>
+pub fn minute_end(figures: &mut Figures, index: u32) -> Outcome
     requires { figures_hold figures.old ≡ true }
-    ensures { numbered figures.new (number_of result) ≡ outcome figures.old (Call.MinuteEnd index) }
+    ensures { outcome_of result figures.new ≡ outcome figures.old (Call.MinuteEnd index) }
 {
     let day = figures.day;
     refusals::minute_end(figures.closed, day.forbids_minute_end(), index)?;
@@ -80,18 +78,18 @@ pub fn minute_end(figures: &mut Figures, index: u32) -> Result<(), Refusal>
         .minute
         .is_valid(figures.halted, index, figures.terms());
     begin(figures, day_effects::minute_ended(day, valid, index));
-    Ok(())
+    Ok(None)
 }
 
-pub fn fix(figures: &mut Figures, set: u32) -> Result<Fixing, Refusal>
+pub fn fix(figures: &mut Figures, set: u32) -> Outcome
     requires { Fixable figures.old }
-    ensures { outcome_of_fix result figures.new ≡ outcome figures.old (Call.Fix set) }
+    ensures { outcome_of result figures.new ≡ outcome figures.old (Call.Fix set) }
 {
     let day = figures.day;
     let fixing = figures.fixing(set);
     refusals::fix(figures.closed, day.forbids_fix(), set, fixing.price)?;
     figures.day = day_effects::fixed(day, fixing.price, fixing.amount);
-    Ok(fixing)
+    Ok(Some(fixing))
 }
 
 // An accepted close.

@@ -13,7 +13,7 @@ use calls::Trade;
 use columns::Columns;
 use counterparties::effects::{count, exchange};
 use counterparties::limits::{position_stays, volume_stays};
-use figures::Figures;
+use figures::{Figures, Outcome};
 use refusals::Refusal;
 
 // The refusal of a trade, by its values and then by its accounts.
@@ -27,7 +27,7 @@ fn test(figures: &Figures, columns: &Columns, t: Trade) -> Result<(), Refusal>
 }
 
 // Any trade: a refusal, which leaves figures and columns as they are, or both changed.
-pub fn trade(figures: &mut Figures, columns: &mut Columns, t: Trade) -> Result<(), Refusal>
+pub fn trade(figures: &mut Figures, columns: &mut Columns, t: Trade) -> Outcome
     requires { Tradable figures.old columns.old t }
     ensures { TradeAnswered accounts figures.old columns.old t result figures.new columns.new }
 {
@@ -37,5 +37,5 @@ pub fn trade(figures: &mut Figures, columns: &mut Columns, t: Trade) -> Result<(
     count(&mut columns.volume, t);
     exchange(&mut columns.cost, t, quantity * u64::from(t.price));
     outcomes::traded(figures, t);
-    Ok(())
+    Ok(None)
 }
