@@ -24,31 +24,31 @@ use Rattle.ledger.specs.declared.Book.{Book}
 use Rattle.ledger.specs.Refusals.{account_of, within_limits}
 
 pub record Account (b : Book) (j : ℕ) : Type 0 where
-  pub opening : nat_abs (entry b.opening j) ≤ most_position
-  pub position : nat_abs (entry b.position j) ≤ most_position
-  pub volume : count_at b.volume j ≤ most_volume
-  pub cost : nat_abs (entry b.cost j) ≤ count_at b.volume j * largest_price
-  pub cash : nat_abs (entry b.cash j) ≤ b.figures.closed * most_posting
+  pub opening : nat_abs (entry b.columns.opening j) ≤ most_position
+  pub position : nat_abs (entry b.columns.position j) ≤ most_position
+  pub volume : count_at b.columns.volume j ≤ most_volume
+  pub cost : nat_abs (entry b.columns.cost j) ≤ count_at b.columns.volume j * largest_price
+  pub cash : nat_abs (entry b.columns.cash j) ≤ b.figures.closed * most_posting
 
 pub record Held (n : ℕ) (b : Book) : Type 0 where
   pub figures : HeldFigures b.figures
   pub account : (j : ℕ) → j < n → Account b j
-  pub final : HeldFinal b.figures.day.trades.settling (sum_below n (count_at b.volume))
+  pub final : HeldFinal b.figures.day.trades.settling (sum_below n (count_at b.columns.volume))
 
 -- ---- from the limits
 
 pub held_account : (b : Book) (j : ℕ) → account_of b j ≡ true → Account b j
 held_account b j h =
     let t =
-    each (within (entry b.opening j) most_position)
-    (within (entry b.position j) most_position ∷ leb (count_at b.volume j) most_volume ∷ within (entry b.cost j) (count_at b.volume j * largest_price)
-    ∷ within (entry b.cash j) (b.figures.closed * most_posting) ∷ []) h in
+    each (within (entry b.columns.opening j) most_position)
+    (within (entry b.columns.position j) most_position ∷ leb (count_at b.columns.volume j) most_volume ∷ within (entry b.columns.cost j) (count_at b.columns.volume j * largest_price)
+    ∷ within (entry b.columns.cash j) (b.figures.closed * most_posting) ∷ []) h in
     record { opening = omega (tests, t 0); position = omega (tests, t 1); volume = omega (tests, t 2); cost = omega (tests, t 3); cash = omega (tests, t 4) }
 
 pub held : (n : ℕ) (b : Book) → within_limits n b ≡ true → Held n b
 unfolding within_limits
 held n b h =
-    let v = sum_below n (count_at b.volume) in
+    let v = sum_below n (count_at b.columns.volume) in
     let m = b.figures.day.trades.settling in
     let t = each (figures_hold b.figures) (all_below n (account_of b) ∷ final_holds m v ∷ []) h in
     record { figures = held_figures b.figures (t 0); account = λ j l. held_account b j (all_at n (account_of b) (t 1) j l); final = held_final m v (t 2) }
@@ -63,10 +63,10 @@ unfolding within_limits
 holds n b h =
     figures_hold-held b.figures h.figures
     and all_by n (account_of b) (λ j l. account_of-held b j (h.account j l))
-    and final_holds-held b.figures.day.trades.settling (sum_below n (count_at b.volume)) h.final
+    and final_holds-held b.figures.day.trades.settling (sum_below n (count_at b.columns.volume)) h.final
 
 -- ---- what follows
 
 -- half of what all accounts may trade
 pub contracts_most : (n : ℕ) (b : Book) → Held n b → 2 * b.figures.day.trades.settling.contracts ≤ n * most_volume
-contracts_most n b h = omega (arith, h.final.contracts, sum_most n most_volume (count_at b.volume) (λ j l. (h.account j l).volume))
+contracts_most n b h = omega (arith, h.final.contracts, sum_most n most_volume (count_at b.columns.volume) (λ j l. (h.account j l).volume))

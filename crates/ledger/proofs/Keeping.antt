@@ -3,7 +3,7 @@
 --     step_kept                       the answer to a call, accepted or refused
 --     fresh_within, fresh_shaped      a fresh book
 --     run_within, never_beyond        a list of calls on an accepted opening
---     opened_within, stays_within     the same as what is required of a book
+--     opened_within, stays_within, still_within     the same as what is required of a book
 --     refused_beyond                  a refused opening
 -- Assumes nothing.
 use mathlib.Core.Path.{◌≡◌, refl}
@@ -28,7 +28,7 @@ use Rattle.counterparties.specs.Counterparties.{accounts_of}
 use Rattle.ledger.specs.Effects.{with_figures, effect}
 use Rattle.ledger.specs.Refusals.{refusal, within_limits}
 use Rattle.ledger.specs.Inner.{WithinLimits}
-use Rattle.ledger.specs.Step.{is_accepted, step, run, fresh, opening}
+use Rattle.ledger.specs.Step.{Answered, is_accepted, step, run, fresh, opening}
 use Rattle.ledger.specs.Keeping.{Shaped, LimitsKept, RunWithin, NeverBeyond, RefusedBeyond}
 use Rattle.figures.specs.declared.Figures.{Figures}
 use Rattle.ledger.specs.declared.Book.{Book}
@@ -68,7 +68,7 @@ module _ (n : ℕ) (b : Book) (h : Held n b) where
 
   kept : (c : Call) → Shaped n b → Passed n b c → Held n (effect n b c)
   unfolding effect figures_after
-  kept c s p = by c p (held_after b.figures (on_trade (accounts_of n b.position b.volume) no_accounts c) h.figures c (sum_below n (count_at b.volume)) h.final p.sentences)
+  kept c s p = by c p (held_after b.figures (on_trade (accounts_of n b.columns.position b.columns.volume) no_accounts c) h.figures c (sum_below n (count_at b.columns.volume)) h.final p.sentences)
     where
       by : (c : Call) → Passed n b c → HeldFigures (figures_after b.figures c) → Held n (effect n b c)
       by (call.Quote m) p f = same_accounts (figures_after b.figures (call.Quote m)) f refl refl
@@ -113,6 +113,9 @@ opened_within n s h = record { shaped = fresh_shaped n (cond (is_size s) s 0); w
 -- a call on a book within its limits
 pub stays_within : (n : ℕ) (b : Book) (c : Call) → WithinLimits n b → WithinLimits n (step n b c).book
 stays_within n b c w = let k = step_kept n b c w.shaped w.within in record { shaped = k.0; within = k.1 }
+
+pub still_within : (n : ℕ) (b : Book) (c : Call) → WithinLimits n b → (a : Answered) → a ≡ step n b c → WithinLimits n a.book
+still_within n b c w a e = rw e (stays_within n b c w)
 
 pub never_beyond : NeverBeyond
 never_beyond n s cs c h = within_passes n (run n (opening n s).book cs) c (run_within n s cs h)

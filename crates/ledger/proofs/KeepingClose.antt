@@ -38,7 +38,7 @@ fresh_held n s h =
 pub closed_account : (n : ℕ) (b : Book) → Held n b → (j : ℕ) → j < n → Account (closed_book n b (closed_figures b.figures)) j
 closed_account n b h j l =
     let a = h.account j l in
-    let x = posting b.figures (entry b.position j) (entry b.opening j) (entry b.cost j) in
+    let x = posting b.figures (entry b.columns.position j) (entry b.columns.opening j) (entry b.columns.cost j) in
     let within : nat_abs x ≤ most_posting =
-    posting_size b.figures (entry b.position j) (entry b.opening j) (entry b.cost j) h.figures a.position a.opening (omega (arith, a.cost, a.volume)) in
-    omega (arith, a.position, a.cash, no_count n j l, no_entry n j l, ap nat_abs (table_at n (posted b.figures b.opening b.position b.cost b.cash) j (pos 0) l), abs_add (entry b.cash j) x)
+    posting_size b.figures (entry b.columns.position j) (entry b.columns.opening j) (entry b.columns.cost j) h.figures a.position a.opening (omega (arith, a.cost, a.volume)) in
+    omega (arith, a.position, a.cash, no_count n j l, no_entry n j l, ap nat_abs (table_at n (posted b.figures b.columns.opening b.columns.position b.columns.cost b.columns.cash) j (pos 0) l), abs_add (entry b.columns.cash j) x)

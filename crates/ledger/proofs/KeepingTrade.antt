@@ -39,24 +39,24 @@ module _ (n : ℕ) (b : Book) (t : Trade) (shape : Shaped n b) (h : Held n b) (p
   accounts : (t.buyer < n) × (t.seller < n)
   accounts = in_range n t p.sentences.accounts
 
-  costs : (j : ℕ) → j < n → nat_abs (entry (exchanged b.cost t (t.quantity * t.price)) j) ≤ count_at (counted b.volume t) j * largest_price
+  costs : (j : ℕ) → j < n → nat_abs (entry (exchanged b.columns.cost t (t.quantity * t.price)) j) ≤ count_at (counted b.columns.volume t) j * largest_price
   costs j l =
       let q = t.quantity in
       let x = q * t.price in
-      let cost = raise b.cost t.buyer (pos x) in
-      let volume = raise_count b.volume t.buyer q in
+      let cost = raise b.columns.cost t.buyer (pos x) in
+      let volume = raise_count b.columns.volume t.buyer q in
       cost_raised cost volume t.seller j q (neg_ℤ (pos x))
-      (omega (arith, accounts.1, shape.cost, length-set b.cost t.buyer (entry b.cost t.buyer +ℤ pos x)))
-      (omega (arith, accounts.1, shape.volume, length-set b.volume t.buyer (count_at b.volume t.buyer + q)))
+      (omega (arith, accounts.1, shape.cost, length-set b.columns.cost t.buyer (entry b.columns.cost t.buyer +ℤ pos x)))
+      (omega (arith, accounts.1, shape.volume, length-set b.columns.volume t.buyer (count_at b.columns.volume t.buyer + q)))
       (omega (arith, fields.high, abs_neg (pos x)))
-      (cost_raised b.cost b.volume t.buyer j q (pos x) (omega (arith, accounts.0, shape.cost)) (omega (arith, accounts.0, shape.volume)) fields.high (h.account j l).cost)
+      (cost_raised b.columns.cost b.columns.volume t.buyer j q (pos x) (omega (arith, accounts.0, shape.cost)) (omega (arith, accounts.0, shape.volume)) fields.high (h.account j l).cost)
 
   -- closed days stay
   pub traded_account : (f : Figures) → f.closed ≡ b.figures.closed → (j : ℕ) → j < n → Account (traded_book b f t) j
   traded_account f e j l =
       let a = h.account j l in
-      let position = exchanged b.position t t.quantity in
-      let volume = counted b.volume t in
+      let position = exchanged b.columns.position t t.quantity in
+      let volume = counted b.columns.volume t in
       let bp = within (entry position t.buyer) most_position in
       let sp = within (entry position t.seller) most_position in
       let bv = leb (count_at volume t.buyer) most_volume in
@@ -66,27 +66,27 @@ module _ (n : ℕ) (b : Book) (t : Trade) (shape : Shaped n b) (h : Held n b) (p
       record {
         opening = a.opening;
         position = of_each (λ i. nat_abs (entry position i) ≤ most_position) j t.buyer t.seller (omega (tests, positions 0)) (omega (tests, positions 1))
-            (λ x y. let e : entry position j ≡ entry b.position j = untouched b.position t.buyer t.seller j _ _ (pos 0) x y in omega (arith, a.position, ap nat_abs e));
+            (λ x y. let e : entry position j ≡ entry b.columns.position j = untouched b.columns.position t.buyer t.seller j _ _ (pos 0) x y in omega (arith, a.position, ap nat_abs e));
         volume = of_each (λ i. count_at volume i ≤ most_volume) j t.buyer t.seller (omega (tests, volumes 0)) (omega (tests, volumes 1))
-            (λ x y. let e : count_at volume j ≡ count_at b.volume j = untouched b.volume t.buyer t.seller j _ _ 0 x y in omega (arith, a.volume));
+            (λ x y. let e : count_at volume j ≡ count_at b.columns.volume j = untouched b.columns.volume t.buyer t.seller j _ _ 0 x y in omega (arith, a.volume));
         cost = costs j l;
         cash = rw e a.cash;
       }
 
-  volumes : sum_below n (count_at (counted b.volume t)) ≡ sum_below n (count_at b.volume) + t.quantity + t.quantity
+  volumes : sum_below n (count_at (counted b.columns.volume t)) ≡ sum_below n (count_at b.columns.volume) + t.quantity + t.quantity
   volumes =
       let q = t.quantity in
-      let volume = raise_count b.volume t.buyer q in
+      let volume = raise_count b.columns.volume t.buyer q in
       omega (
         arith,
-        sum_raised n volume t.seller q accounts.1 (omega (arith, shape.volume, length-set b.volume t.buyer (count_at b.volume t.buyer + q))),
-        sum_raised n b.volume t.buyer q accounts.0 (omega (arith, shape.volume)),
+        sum_raised n volume t.seller q accounts.1 (omega (arith, shape.volume, length-set b.columns.volume t.buyer (count_at b.columns.volume t.buyer + q))),
+        sum_raised n b.columns.volume t.buyer q accounts.0 (omega (arith, shape.volume)),
       )
 
-  pub traded_final : HeldFinal (figures_after b.figures (call.Trade t)).day.trades.settling (sum_below n (count_at (counted b.volume t)))
+  pub traded_final : HeldFinal (figures_after b.figures (call.Trade t)).day.trades.settling (sum_below n (count_at (counted b.columns.volume t)))
   unfolding figures_after
   traded_final =
       let d = b.figures.day in
       let m = d.trades.settling in
-      by_test (is_final (day_length d) d.minutes.ended t) (λ x. HeldFinal x (sum_below n (count_at (counted b.volume t)))) {x = with_trade m t} {y = m}
+      by_test (is_final (day_length d) d.minutes.ended t) (λ x. HeldFinal x (sum_below n (count_at (counted b.columns.volume t)))) {x = with_trade m t} {y = m}
       (λ e. omega (arith, volumes, fields.low, fields.high, h.final)) (λ e. omega (arith, volumes, h.final))

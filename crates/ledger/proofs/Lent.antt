@@ -5,53 +5,57 @@
 -- Assumes nothing.
 use mathlib.Core.Path.{◌≡◌, refl, ◌∙◌, ap}
 use mathlib.Core.Bool.{Bool, true, false, cond}
-use mathlib.Core.List.{List}
 use Prim.Native.Nat.{ℕ, ◌*◌, ◌<◌, ◌≤◌}
 use native.Mathlib.Omega.{arith}
 use lib.Dec.{eqb}
-use lib.IntN.{ℤ, nat_abs, pos}
-use lib.ListN.{length, replicate}
+use lib.IntN.{nat_abs}
+use lib.ListN.{length}
 use Rattle.prices.specs.Price.{largest_price}
 use Rattle.calls.specs.declared.Call.TheVariants as call
 use Rattle.calls.specs.declared.Trade.{Trade}
 use Rattle.calls.specs.declared.Call.{Call}
 use Rattle.outcomes.specs.Effects.{figures_after}
 use Rattle.refusals.specs.Refusals.{first_met}
-use Rattle.outcomes.specs.Outcome.{figures_refusal, outcome}
+use Rattle.outcomes.specs.Outcome.{figures_refusal, outcome, outcome_by}
 use Rattle.figures.specs.Fixing.{Fixable}
 use Rattle.figures.proofs.Held.{figures_hold-held, size_most}
-use Rattle.columns.specs.Columns.{accounts, entry, table}
+use Rattle.columns.specs.Columns.{accounts, entry}
 use Rattle.columns.specs.Limits.{most_volume}
-use Rattle.closing.specs.Closing.{posted}
+use Rattle.closing.specs.Closing.{closed_columns}
 use Rattle.closing.specs.Inner.{Closable, CloseAnswered}
-use Rattle.counterparties.specs.Counterparties.{exchanged, counted}
-use Rattle.trading.specs.Trading.{trade_refusal}
+use Rattle.trading.specs.Trading.{trade_refusal, traded_columns}
 use Rattle.trading.specs.Inner.{Tradable, TradeAnswered}
 use Rattle.ledger.specs.Effects.{with_figures, effect}
 use Rattle.ledger.specs.Refusals.{sentences_of, refusal}
-use Rattle.ledger.specs.Step.{answer_by, step}
-use Rattle.ledger.specs.Inner.{book_of, answer_of, WithinLimits}
+use Rattle.ledger.specs.Step.{Answered, answer_of, answer_by, step}
+use Rattle.ledger.specs.Inner.{WithinLimits}
 use Rattle.figures.specs.declared.Figures.{Figures}
-use Rattle.figures.specs.declared.Outcome.{Outcome}
+use Rattle.figures.specs.declared.Fixing.{Fixing}
+use Rattle.figures.specs.Figures.{Outcome, outcome_of}
+use Rattle.columns.specs.declared.Columns.{Columns}
+use Rattle.refusals.specs.declared.Refusal.{Refusal}
+use Rattle.std.specs.Prelude.{Option, Result}
 use Rattle.ledger.specs.declared.Book.{Book}
-use Rattle.ledger.specs.declared.Answer.{Answer}
 use Rattle.ledger.proofs.Held.{Held, held, contracts_most}
+
+abbrev Called : Type 0
+Called = Result (Option Fixing) Refusal
 
 module _ (b : Book) (w : WithinLimits accounts b) where
   holds : Held accounts b
   holds = held accounts b w.within
 
   -- an account's cost is within its contracts at the largest price
-  cost_most : (j : ℕ) → j < accounts → nat_abs (entry b.cost j) ≤ most_volume * largest_price
+  cost_most : (j : ℕ) → j < accounts → nat_abs (entry b.columns.cost j) ≤ most_volume * largest_price
   cost_most j h = let a = holds.account j h in omega (arith, a.cost, a.volume)
 
-  pub tradable : (t : Trade) → t.buyer < accounts → t.seller < accounts → Tradable b.figures b.position b.cost b.volume t
+  pub tradable : (t : Trade) → t.buyer < accounts → t.seller < accounts → Tradable b.figures b.columns t
   tradable t hb hs =
       let x = holds.account t.buyer hb in
       let y = holds.account t.seller hs in
-      let p : length b.position ≡ accounts = w.shaped.position in
-      let c : length b.cost ≡ accounts = w.shaped.cost in
-      let v : length b.volume ≡ accounts = w.shaped.volume in
+      let p : length b.columns.position ≡ accounts = w.shaped.position in
+      let c : length b.columns.cost ≡ accounts = w.shaped.cost in
+      let v : length b.columns.volume ≡ accounts = w.shaped.volume in
       record {
         positions = record { buyer_in = rw p hb; seller_in = rw p hs; buyer = x.position; seller = y.position };
         costs = record { buyer_in = rw c hb; seller_in = rw c hs; buyer = omega (arith, cost_most t.buyer hb); seller = omega (arith, cost_most t.seller hs) };
@@ -63,7 +67,7 @@ module _ (b : Book) (w : WithinLimits accounts b) where
   pub fixable : Fixable b.figures
   fixable = record { gross = holds.final.high; size = size_most b.figures.size holds.figures.size }
 
-  pub closable : Closable b.figures b.opening b.position b.cost b.cash
+  pub closable : Closable b.figures b.columns
   closable =
       let f = figures_hold-held b.figures holds.figures in
       record {
@@ -74,52 +78,52 @@ module _ (b : Book) (w : WithinLimits accounts b) where
       }
 
 -- what a call on a book within its limits is answered
-abbrev pub answered : ℕ → Book → Call → Answer
+abbrev pub answered : ℕ → Book → Call → Answered
 answered n b c = answer_by (first_met (sentences_of n b c)) n b c
 
 pub step_within : (n : ℕ) (b : Book) (c : Call) → WithinLimits n b → answered n b c ≡ step n b c
 unfolding step refusal
 step_within n b c w = rw w.within
 
-through : (t : Bool) (f g : Figures) (opening position cost : List ℤ) (volume : List ℕ) (cash : List ℤ) → book_of (cond t f g) opening position cost volume cash ≡ cond t (book_of f opening position cost volume cash) (book_of g opening position cost volume cash)
-through true f g opening position cost volume cash = refl
-through false f g opening position cost volume cash = refl
+-- the answer of an outcome, with these columns
+abbrev with_columns : Columns → Outcome → Answered
+with_columns columns o = record { code = o.code; fixing = o.fixing; book = record { figures = o.figures; columns = columns } }
 
-pub on_figures : (n : ℕ) (b : Book) (c : Call) {r : Outcome} → first_met (sentences_of n b c) ≡ figures_refusal b.figures c → effect n b c ≡ with_figures b (figures_after b.figures c) → r ≡ outcome b.figures c → answer_of r b.opening b.position b.cost b.volume b.cash ≡ answered n b c
-on_figures n b c {r} number after e =
-    ap (λ (r : Outcome). answer_of r b.opening b.position b.cost b.volume b.cash) e
-    ∙ rw (number, after, through (eqb (figures_refusal b.figures c) 0) (figures_after b.figures c) b.figures b.opening b.position b.cost b.volume b.cash)
+through : (t : Bool) (f g : Figures) (c d : Columns) → ◌≡◌ {A = Book} (record { figures = cond t f g; columns = cond t c d }) (cond t (record { figures = f; columns = c }) (record { figures = g; columns = d }))
+through true f g c d = refl
+through false f g c d = refl
 
-through_trade : (t : Bool) (f g : Figures) (opening p q c d : List ℤ) (v w : List ℕ) (cash : List ℤ) → book_of (cond t f g) opening (cond t p q) (cond t c d) (cond t v w) cash ≡ cond t (book_of f opening p c v cash) (book_of g opening q d w cash)
-through_trade true f g opening p q c d v w cash = refl
-through_trade false f g opening p q c d v w cash = refl
+same : (t : Bool) (f g : Figures) (c : Columns) → ◌≡◌ {A = Book} (record { figures = cond t f g; columns = c }) (cond t (record { figures = f; columns = c }) (record { figures = g; columns = c }))
+same true f g c = refl
+same false f g c = refl
 
-pub trade-answered : (n : ℕ) (b : Book) (t : Trade) {r : Outcome} {position cost : List ℤ} {volume : List ℕ} → TradeAnswered n b.figures b.position b.cost b.volume t r position cost volume → answer_of r b.opening position cost volume b.cash ≡ answered n b (call.Trade t)
+pub on_figures : (n : ℕ) (b : Book) (c : Call) (w : WithinLimits n b) (r : Called) (f : Figures) → first_met (sentences_of n b c) ≡ figures_refusal b.figures c → effect n b c ≡ with_figures b (figures_after b.figures c) → outcome_of r f ≡ outcome b.figures c → answer_of r (record { figures = f; columns = b.columns }) ≡ step n b c
+on_figures n b c w r f number after e =
+    ap (with_columns b.columns) e ∙ (by_number ∙ step_within n b c w)
+  where
+    by_number : with_columns b.columns (outcome b.figures c) ≡ answered n b c
+    by_number = rw (number, after, same (eqb (figures_refusal b.figures c) 0) (figures_after b.figures c) b.figures b.columns)
+
+pub trade-answered : (n : ℕ) (b : Book) (t : Trade) (w : WithinLimits n b) (r : Called) (f : Figures) (columns : Columns) → TradeAnswered n b.figures b.columns t r f columns → answer_of r (record { figures = f; columns = columns }) ≡ step n b (call.Trade t)
 unfolding effect
-trade-answered n b t {r} {position} {cost} {volume} a =
-    let number = trade_refusal n b.figures b.position b.volume t in
-    rw (
-      a.positions,
-      a.costs,
-      a.volumes,
-      a.outcome,
-      through_trade (eqb number 0) (figures_after b.figures (call.Trade t)) b.figures b.opening (exchanged b.position t t.quantity) b.position
-          (exchanged b.cost t (t.quantity * t.price)) b.cost (counted b.volume t) b.volume b.cash,
-    )
+trade-answered n b t w r f columns a = ap (with_columns columns) a.outcome ∙ (by_number ∙ step_within n b (call.Trade t) w)
+  where
+    by_number : with_columns columns (outcome_by (trade_refusal n b.figures b.columns t) b.figures (call.Trade t)) ≡ answered n b (call.Trade t)
+    by_number =
+        rw (
+          a.columns,
+          ap (λ (o : Outcome). o.code) a.outcome,
+          through (eqb (trade_refusal n b.figures b.columns t) 0) (figures_after b.figures (call.Trade t)) b.figures (traded_columns b.columns t) b.columns,
+        )
 
-through_close : (t : Bool) (f g : Figures) (o p position c d : List ℤ) (v w : List ℕ) (k l : List ℤ) → book_of (cond t f g) (cond t o p) position (cond t c d) (cond t v w) (cond t k l) ≡ cond t (book_of f o position c v k) (book_of g p position d w l)
-through_close true f g o p position c d v w k l = refl
-through_close false f g o p position c d v w k l = refl
-
-pub close-answered : (n : ℕ) (b : Book) {r : Outcome} {opening cost : List ℤ} {volume : List ℕ} {cash : List ℤ} → CloseAnswered n b.figures b.opening b.position b.cost b.volume b.cash r opening cost volume cash → answer_of r opening b.position cost volume cash ≡ answered n b call.Close
+pub close-answered : (n : ℕ) (b : Book) (w : WithinLimits n b) (r : Called) (f : Figures) (columns : Columns) → CloseAnswered n b.figures b.columns r f columns → answer_of r (record { figures = f; columns = columns }) ≡ step n b call.Close
 unfolding effect
-close-answered n b {r} {opening} {cost} {volume} {cash} a =
-    rw (
-      a.openings,
-      a.costs,
-      a.volumes,
-      a.cashes,
-      a.answer,
-      through_close (eqb (figures_refusal b.figures call.Close) 0) (figures_after b.figures call.Close) b.figures b.position b.opening b.position
-          (replicate n (pos 0)) b.cost (replicate n 0) b.volume (table n (posted b.figures b.opening b.position b.cost b.cash)) b.cash,
-    )
+close-answered n b w r f columns a = ap (with_columns columns) a.answer ∙ (by_number ∙ step_within n b call.Close w)
+  where
+    by_number : with_columns columns (outcome b.figures call.Close) ≡ answered n b call.Close
+    by_number =
+        rw (
+          a.columns,
+          ap (λ (o : Outcome). o.code) a.answer,
+          through (eqb (figures_refusal b.figures call.Close) 0) (figures_after b.figures call.Close) b.figures (closed_columns n b.figures b.columns) b.columns,
+        )

@@ -18,7 +18,7 @@ use Rattle.ledger.specs.declared.Book.{Book}
 
 pub record Passed (n : ℕ) (b : Book) (c : Call) : Type 0 where
   pub limits : within_limits n b ≡ true
-  pub sentences : PassedFigures b.figures c (on_trade (accounts_of n b.position b.volume) no_accounts c)
+  pub sentences : PassedFigures b.figures c (on_trade (accounts_of n b.columns.position b.columns.volume) no_accounts c)
 
 -- a list whose first sentence is not met
 rest : (met : Bool) (number : ℕ) (l : _) → met ≡ false → first_met ((number, met) ∷ l) ≡ first_met l
@@ -28,7 +28,7 @@ pub passed : (n : ℕ) (b : Book) (c : Call) → refusal n b c ≡ 0 → Passed 
 unfolding refusal
 passed n b c h =
     let limits = unmet ((2, not (within_limits n b)) ∷ sentences_of n b c) refl h 0 in
-    record { limits = not-false (within_limits n b) limits; sentences = passed_figures b.figures c (on_trade (accounts_of n b.position b.volume) no_accounts c) (rw limits at h) }
+    record { limits = not-false (within_limits n b) limits; sentences = passed_figures b.figures c (on_trade (accounts_of n b.columns.position b.columns.volume) no_accounts c) (rw limits at h) }
 
 pub within_passes : (n : ℕ) (b : Book) (c : Call) → within_limits n b ≡ true → refusal n b c ≡ 2 → ⊥
 unfolding refusal

@@ -7,11 +7,11 @@ use Rattle.ledger.specs.{declared.Book.Book, Effects.effect, Refusals.refusal, R
 
 -- each column has an entry for each of n accounts
 pub record Shaped (n : ℕ) (b : Book) : Type 0 where
-  pub opening : length b.opening ≡ n
-  pub position : length b.position ≡ n
-  pub cost : length b.cost ≡ n
-  pub volume : length b.volume ≡ n
-  pub cash : length b.cash ≡ n
+  pub opening : length b.columns.opening ≡ n
+  pub position : length b.columns.position ≡ n
+  pub cost : length b.columns.cost ≡ n
+  pub volume : length b.columns.volume ≡ n
+  pub cash : length b.columns.cash ≡ n
 
 -- an accepted call leaves a book within its limits
 abbrev pub LimitsKept : Type 0

@@ -1,5 +1,6 @@
 pub mod Effects
 pub mod Refusals
 pub mod Step
+pub mod Checked
 pub mod Keeping
 pub mod Inner

@@ -1,28 +1,37 @@
 -- The opening, a call, a list of calls and the report, on a book of n accounts.
 use mathlib.Core.{Bool.Bool, Bool.cond, Bool.not, Bool.◌||◌, List.List, List.[], List.◌∷◌}
-use Rattle.std.specs.Prelude.{ℕ}
-use lib.{Dec.eqb, IntN.pos, IntN.ℤ, ListN.replicate}
+use Rattle.std.specs.Prelude.{ℕ, Option, None, Result}
+use lib.{Dec.eqb, IntN.ℤ}
 use Rattle.integers.specs.Lists.{keep_if}
 use Rattle.calls.specs.declared.Call.{Call}
-use Rattle.figures.specs.{Figures.fresh_figures, Figures.no_fixing, Figures.opened, declared.Figures.Figures}
+use Rattle.refusals.specs.{declared.Refusal.Refusal, Refusals.first_met, Refusals.number_of}
+use Rattle.figures.specs.{declared.Figures.Figures, declared.Fixing.Fixing, Figures.fixing_in, Figures.fresh_figures, Figures.opened}
 use Rattle.outcomes.specs.Effects.{fixing_of}
-use Rattle.refusals.specs.Refusals.{first_met}
-use Rattle.ledger.specs.{declared.Book.Book, declared.Answer.Answer, Effects.effect, Refusals.refusal, Refusals.within_limits}
+use Rattle.columns.specs.Columns.{zero_columns}
+use Rattle.ledger.specs.{declared.Book.Book, Effects.effect, Refusals.refusal, Refusals.within_limits}
+
+-- what a call is answered: the number of its refusal, 0 for none, what a fix found, and the book after it
+pub record Answered : Type 0 where
+  pub code : ℕ
+  pub fixing : Option Fixing
+  pub book : Book
+
+-- that of an outcome with the book after it
+abbrev pub answer_of : Result (Option Fixing) Refusal → Book → Answered
+answer_of r b = record { code = number_of r; fixing = fixing_in r; book = b }
 
 -- ---- the opening
 
 -- a book of n accounts with these figures, and zeros in every column
 abbrev pub empty_book : ℕ → Figures → Book
-empty_book n f =
-    let zeros = replicate n (pos 0) in
-    record { figures = f; opening = zeros; position = zeros; cost = zeros; volume = replicate n 0; cash = zeros }
+empty_book n f = record { figures = f; columns = zero_columns n }
 
 -- 01: "a fresh book holds that size, zeros, and no halt", here over n accounts
 abbrev pub fresh : ℕ → ℕ → Book
 fresh n s = empty_book n (fresh_figures s)
 
 -- 01: "A fresh book is what an accepted opening hands back"; "A refused opening returns an empty book of size 0"
-abbrev pub opening : ℕ → ℕ → Answer
+abbrev pub opening : ℕ → ℕ → Answered
 opening n s = record { code = (opened s).code; fixing = (opened s).fixing; book = empty_book n (opened s).figures }
 
 -- ---- calls
@@ -32,15 +41,15 @@ abbrev pub is_accepted : ℕ → Book → Call → Bool
 is_accepted n b c = eqb (refusal n b c) 0
 
 -- the answer with this number: 01, "A refused call returns its number and the same book"
-abbrev pub answer_by : ℕ → ℕ → Book → Call → Answer
+abbrev pub answer_by : ℕ → ℕ → Book → Call → Answered
 answer_by number n b c = record {
   code = number;
-  fixing = cond (eqb number 0) (fixing_of b.figures c) no_fixing;
+  fixing = cond (eqb number 0) (fixing_of b.figures c) None;
   book = cond (eqb number 0) (effect n b c) b;
 }
 
 -- the answer to a call
-unfoldable pub step : ℕ → Book → Call → Answer
+unfoldable pub step : ℕ → Book → Call → Answered
 step n b c = answer_by (refusal n b c) n b c
 
 -- the book after a list of calls

@@ -1,4 +1,4 @@
--- `ledger::Book::step` meets its contract: refusal 2, or the call on the columns of the book.
+-- `Book::step` meets its contract: refusal 2, or the call on a book within its limits.
 use mathlib.Core.Path.{◌≡◌, sym, ◌∙◌}
 use mathlib.Core.Bool.{false}
 use Rattle.columns.specs.Columns.{accounts}
@@ -6,8 +6,8 @@ use Rattle.ledger.specs.Refusals.{refusal, within_limits}
 use Rattle.ledger.specs.Step.{step}
 use Rattle.ledger.proofs.Book.step.Goals as goal
 
-pub returns-then-not-limits_hold : goal.returns-then-not-limits_hold
+pub returns-then-not-is_within_limits : goal.returns-then-not-is_within_limits
 unfolding step refusal
-returns-then-not-limits_hold c =
-    let beyond : within_limits accounts c.args.self ≡ false = sym c.limits_hold.ensures ∙ c.if-not-limits_hold.true in
-    rw (c.none.ensures, beyond)
+returns-then-not-is_within_limits c =
+    let beyond : within_limits accounts c.args.self ≡ false = sym c.is_within_limits.ensures ∙ c.if-not-is_within_limits.true in
+    rw beyond
