@@ -31,10 +31,10 @@ demand_three n s cs e =
     let r = subst (λ (b : Book). After n s b [] cs) (sym (opened n s e)) (after_calls n s [] cs tt) in
     let h = history n s cs in
     record {
-      cash = λ j k. ap (λ (b : Book). entry b.cash j) r.book_is ∙ table_at n (cash_of s h) j (pos 0) k;
-      position = λ j k. ap (λ (b : Book). entry b.position j) r.book_is ∙ table_at n (net h) j (pos 0) k;
-      positions_cancel = ap (λ (b : Book). total b.position) r.book_is ∙ net_cancels n s h r.all_passed;
-      cash_cancels = ap (λ (b : Book). total b.cash) r.book_is ∙ cash_cancels n s h r.all_passed;
+      cash = λ j k. ap (λ (b : Book). entry b.columns.cash j) r.book_is ∙ table_at n (cash_of s h) j (pos 0) k;
+      position = λ j k. ap (λ (b : Book). entry b.columns.position j) r.book_is ∙ table_at n (net h) j (pos 0) k;
+      positions_cancel = ap (λ (b : Book). total b.columns.position) r.book_is ∙ net_cancels n s h r.all_passed;
+      cash_cancels = ap (λ (b : Book). total b.columns.cash) r.book_is ∙ cash_cancels n s h r.all_passed;
       days_and_today = days_and_today h;
       closed_days = every_map (whole n s) (closings h) (closes_passed n s h r.all_passed);
     }

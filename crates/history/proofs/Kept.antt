@@ -66,11 +66,13 @@ volume_of h j = sum_count (turnover j) (trades (today h))
 abbrev pub book_from : ℕ → ℕ → History → Book
 book_from n s h = record {
   figures = figures_from s h;
-  opening = table n (net (closed_part (closings h)));
-  position = table n (net h);
-  cost = table n (cost_of h);
-  volume = table n (volume_of h);
-  cash = table n (cash_of s h);
+  columns = record {
+    opening = table n (net (closed_part (closings h)));
+    position = table n (net h);
+    cost = table n (cost_of h);
+    volume = table n (volume_of h);
+    cash = table n (cash_of s h);
+  };
 }
 
 -- ---- the figures, call by call
@@ -173,7 +175,7 @@ gains s P j (t ∷ ts) = ap (λ z. z +ℤ yield s P j t) (gains s P j ts) ∙ re
 
 -- each account's cash after a close
 abbrev cash_after : Book → ℕ → ℤ
-cash_after b = posted b.figures b.opening b.position b.cost b.cash
+cash_after b = posted b.figures b.columns.opening b.columns.position b.columns.cost b.columns.cash
 
 -- what the account j had, what the close of h posts to it, and what it has then
 cash_closed : (n s : ℕ) (h : History) (j : ℕ) → j < n → cash_after (book_from n s h) j ≡ cash_of s (call.Close ∷ h) j
@@ -218,11 +220,13 @@ effect_is n s h c = by (trade_or c) (close_or c)
         o Book (traded_book b f) _ ∙ k Book (closed_book n b f) (with_figures b f)
         ∙ (λ i. record {
           figures = figures_after-figures_from s h c i;
-          opening = table n (net (closed_part (days i)));
-          position = table n (λ j. sum (signed j) (all i));
-          cost = table n (λ j. sum (priced j) (all i) -ℤ worth (closed_part (days i)) j);
-          volume = table n (λ j. sum_count (turnover j) (todays i));
-          cash = table n (λ j. sum (yield s (previous_of (days i)).price j) (trades (closed_part (days i))) +ℤ sum (paid s j) (days i));
+          columns = record {
+            opening = table n (net (closed_part (days i)));
+            position = table n (λ j. sum (signed j) (all i));
+            cost = table n (λ j. sum (priced j) (all i) -ℤ worth (closed_part (days i)) j);
+            volume = table n (λ j. sum_count (turnover j) (todays i));
+            cash = table n (λ j. sum (yield s (previous_of (days i)).price j) (trades (closed_part (days i))) +ℤ sum (paid s j) (days i));
+          };
         })
 
 pub fresh_is : (n s : ℕ) → fresh n s ≡ book_from n s []

@@ -39,10 +39,10 @@ abbrev pub total : List ℤ → ℤ
 total l = sum (λ z. z) l
 
 pub record Demand3 (n s : ℕ) (cs : List Call) : Type 0 where
-  pub cash : (j : ℕ) → j < n → entry (after n s cs).cash j ≡ cash_of s (history n s cs) j
-  pub position : (j : ℕ) → j < n → entry (after n s cs).position j ≡ net (history n s cs) j
-  pub positions_cancel : total (after n s cs).position ≡ pos 0
-  pub cash_cancels : total (after n s cs).cash ≡ pos 0
+  pub cash : (j : ℕ) → j < n → entry (after n s cs).columns.cash j ≡ cash_of s (history n s cs) j
+  pub position : (j : ℕ) → j < n → entry (after n s cs).columns.position j ≡ net (history n s cs) j
+  pub positions_cancel : total (after n s cs).columns.position ≡ pos 0
+  pub cash_cancels : total (after n s cs).columns.cash ≡ pos 0
   pub days_and_today : history n s cs ≡ today (history n s cs) ++ calls_of_days (closings (history n s cs))
   pub closed_days : Every Whole (closings (history n s cs))
 
