@@ -4,7 +4,7 @@
 --     kept                 a record leaves a book within its limits
 --     lines_left           the lines from a place on
 --     played_within, played_lines      a record that was played leaves a book within its limits, and its lines stand before those that follow
---     lines_next, no_lines      the lines from a place on: those of the record there before those that follow, and none at the file's end
+--     lines_next, no_lines      the lines from a place on: those of the record there before those that follow, and none where nothing is left
 -- Assumes nothing.
 use mathlib.Core.Path.{◌≡◌, sym, ◌∙◌, ap, subst}
 use mathlib.Core.List.{List, [], ◌∷◌, ◌++◌}
@@ -23,7 +23,6 @@ use Rattle.dayfile.specs.declared.RecordError.{RecordError}
 use Rattle.dayfile.specs.declared.Read.{Read}
 use Rattle.dayfile.specs.Record.{read_at}
 use Rattle.dayfile.specs.Calls.{followed, records_within, records_from, records_of}
-use Rattle.dayfile.proofs.Reading.{at_end}
 use Rattle.dayfile.proofs.Calls.{records_at}
 use Rattle.playing.specs.declared.Printed.{Printed}
 use Rattle.playing.specs.declared.Printed.TheVariants as printed
@@ -69,12 +68,9 @@ kept b r place w = by r.call
     by (Ok (Some c)) = stays_within accounts b c w
     by (Err e) = w
 
-nothing_left : (file : List ℕ) (at : ℕ) → length file ≤ at → records_from file at ≡ []
-nothing_left file at h = records_at file at None (at_end file at h)
-
-pub no_lines : (b : Book) (place : ℕ) (file : List ℕ) (at : ℕ) → length file ≤ at → after_records b place (records_from file at) ≡ record { text = []; book = b }
+pub no_lines : (b : Book) (place : ℕ) (file : List ℕ) (at : ℕ) → read_at file at ≡ None → after_records b place (records_from file at) ≡ record { text = []; book = b }
 unfolding after_records
-no_lines b place file at h = ap (after_records b place) (nothing_left file at h)
+no_lines b place file at e = ap (after_records b place) (records_at file at None e)
 
 pub lines_next : (b : Book) (place : ℕ) (file : List ℕ) (at : ℕ) (r : Read) → read_at file at ≡ Some r
     → after_records b place (records_from file at) ≡ before (played_record b r place) (after_records (played_record b r place).book (place + 1) (records_from file r.next))
