@@ -18,12 +18,13 @@ use Rattle.host.specs.Run.{OneRun}
 same_book : (b : Book) (place : ℕ) (rs : List Read) → (after_records b place rs).book ≡ run accounts b (calls_in rs)
 unfolding after_records calls_in run
 same_book b place [] = refl
-same_book b place (r ∷ rs) = by r.call
+same_book b place (r ∷ rs) = by r.call (λ b. same_book b (place + 1) rs)
   where
-    by : (call : Result (Option Call) RecordError) → (after_records (played_call b call place).book (place + 1) rs).book ≡ run accounts b (called call (calls_in rs))
-    by (Ok None) = same_book b (place + 1) rs
-    by (Ok (Some c)) = same_book (step accounts b c).book (place + 1) rs
-    by (Err e) = same_book b (place + 1) rs
+    by : (call : Result (Option Call) RecordError) → ((b : Book) → (after_records b (place + 1) rs).book ≡ run accounts b (calls_in rs))
+        → (after_records (played_call b call place).book (place + 1) rs).book ≡ run accounts b (called call (calls_in rs))
+    by (Ok None) others = others b
+    by (Ok (Some c)) others = others (step accounts b c).book
+    by (Err e) others = others b
 
 pub one_run : OneRun
 one_run size file = same_book (opening accounts size).book 1 (records_of file)
