@@ -5,7 +5,8 @@ ghost use Rattle.std.specs.Prelude.{◌≡◌};
 ghost use Rattle.day.specs.Day.{day_length, no_markets, empty_day, in_last_minute, forbids_minute_end, forbids_fix};
 ghost use Rattle.day.specs.Limits.{markets_hold, minutes_hold, final_holds, day_holds};
 
-use calls::{FULL_DAY, Market, is_length};
+use calls::{FULL_DAY, is_length};
+use funding::market::Market;
 use integers::is_within;
 use prices::{LARGEST_PRICE, LEAST_PRICE, none_or_price};
 use settlement::FinalMinute;

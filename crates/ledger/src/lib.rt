@@ -9,11 +9,12 @@ ghost use Rattle.ledger.specs.Step.{report_refusal, reported};
 ghost use Rattle.ledger.specs.Step.{opening as Step·opening};
 ghost use Rattle.ledger.specs.Step.{step as Step·step};
 
-use calls::{Call, Market, Trade};
+use calls::{Call, Trade};
 use columns::ACCOUNTS;
 use columns::report::fill;
 use figures::product::Product;
 use figures::{Figures, Fixing, Outcome};
+use funding::market::Market;
 use limits::limits_hold;
 use step::step_on;
 

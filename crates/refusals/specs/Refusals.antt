@@ -2,7 +2,8 @@
 use mathlib.Core.{Bool.Bool, Bool.false, Bool.not, Bool.cond, Bool.◌&&◌, Bool.◌||◌, List.List, List.[], List.◌∷◌}
 use Rattle.std.specs.Prelude.{ℕ, leb}
 use Rattle.prices.specs.Price.{is_present, none_or_price, none_or_ticked}
-use Rattle.calls.specs.{declared.Call.Call, Calls.on_quote, Calls.on_trade, Calls.on_halt, Calls.on_resume, Calls.on_minute_end, Calls.on_fix, Calls.on_day_length, Length.is_length, Market.uncrossed, Trade.trade_outside}
+use Rattle.funding.specs.Market.{uncrossed}
+use Rattle.calls.specs.{declared.Call.Call, Calls.on_quote, Calls.on_trade, Calls.on_halt, Calls.on_resume, Calls.on_minute_end, Calls.on_fix, Calls.on_day_length, Length.is_length, Trade.trade_outside}
 
 -- 01: "closed days 0 to 2,600"
 abbrev pub most_days : ℕ

@@ -4,7 +4,8 @@
 ghost use Rattle.std.specs.Prelude.{◌≡◌, false};
 ghost use Rattle.refusals.specs.Refusals.{is_full, refusal_by};
 
-use calls::{Call, Market, Trade, is_length};
+use calls::{Call, Trade, is_length};
+use funding::market::Market;
 use prices::{none_or_price, none_or_ticked};
 
 pub const MOST_DAYS: u32 = 2_600;

@@ -16,7 +16,7 @@ use Rattle.figures.specs.declared.Figures.{Figures}
 use Rattle.outcomes.specs.Effects.{figures_after, fixing_of}
 use Rattle.outcomes.specs.Outcome.{figures_refusal}
 use Rattle.calls.specs.declared.Call.TheVariants as call
-use Rattle.calls.specs.Market.{two_sided, is_valid}
+use Rattle.funding.specs.Market.{two_sided, is_valid}
 use Rattle.outcomes.proofs.Outcomes.{accepted_is}
 use Rattle.figures.proofs.Held.{held_figures}
 use Rattle.outcomes.proofs.Passed.{passed_figures}
