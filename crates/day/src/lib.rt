@@ -14,7 +14,7 @@ use settlement::FinalMinute;
 pub const MOST_AMOUNT: u64 = 10_000;
 
 // What minute ends set.
-#[derive(Clone, Copy)]
+#[derive(Clone, Copy, Default)]
 pub struct Minutes {
     // valid count k, and weighted sum S
     pub valid: u32,
@@ -26,14 +26,14 @@ pub struct Minutes {
 }
 
 // What quotes and halts set: the standing market and the minute's market.
-#[derive(Clone, Copy)]
+#[derive(Clone, Copy, Default)]
 pub struct Markets {
     pub standing: Market,
     pub minute: Market,
 }
 
 // What trades set.
-#[derive(Clone, Copy)]
+#[derive(Clone, Copy, Default)]
 pub struct Trades {
     // the last trade
     pub last: u32,
@@ -42,7 +42,7 @@ pub struct Trades {
 }
 
 // What a fix sets. A price of 0 means that the day isn't fixed.
-#[derive(Clone, Copy)]
+#[derive(Clone, Copy, Default)]
 pub struct Fixed {
     pub price: u32,
     pub amount: i64,
@@ -71,10 +71,7 @@ impl Markets {
     pub fn none() -> Self
         ensures { result ≡ no_markets }
     {
-        Self {
-            standing: Market { bid: 0, offer: 0 },
-            minute: Market { bid: 0, offer: 0 },
-        }
+        Self::default()
     }
 
     // Whether both are within their limits.
@@ -101,28 +98,14 @@ impl Day {
         ensures { result ≡ empty_day }
     {
         Self {
-            minutes: Minutes {
-                ended: 0,
-                valid: 0,
-                weighted: 0,
-                index: 0,
-            },
+            fixed: Fixed::default(),
+            trades: Trades::default(),
             markets: Markets::none(),
-            trades: Trades {
-                last: 0,
-                settling: FinalMinute {
-                    contracts: 0,
-                    gross: 0,
-                },
-            },
-            fixed: Fixed {
-                price: 0,
-                amount: 0,
-            },
             session: Session {
                 length: FULL_DAY,
                 begun: false,
             },
+            minutes: Minutes::default(),
         }
     }
 

@@ -27,7 +27,7 @@ fn next_minute(markets: Markets) -> Markets
     ensures { result ≡ next_minute markets }
 {
     let mut after = markets;
-    after.minute = markets.standing.as_minute(Market { bid: 0, offer: 0 });
+    after.minute = markets.standing.as_minute(Market::default());
     after
 }
 
