@@ -1,7 +1,8 @@
 -- The calls that the bodies of records bring: document 01's format, and document 02's records.
 use Rattle.std.specs.Prelude.{ℕ, ◌+◌, ◌*◌, List, get_or}
 use Rattle.calls.specs.declared.Call.TheVariants as call
-use Rattle.calls.specs.declared.{Market.Market, Trade.Trade, Call.Call}
+use Rattle.funding.specs.declared.market.Market.{Market}
+use Rattle.calls.specs.declared.{Trade.Trade, Call.Call}
 use Rattle.calls.specs.Trade.{kind_of}
 use Rattle.tags.specs.declared.Tag.{Tag}
 use Rattle.tags.specs.declared.Tag.TheVariants as tag

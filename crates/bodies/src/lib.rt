@@ -5,7 +5,8 @@ ghost use Rattle.std.specs.Prelude.{◌≡◌, ◌+◌, ◌≤◌, length};
 ghost use Rattle.tags.specs.Tags.{body_length};
 ghost use Rattle.bodies.specs.Body.{two_bytes, four_bytes, trade_at, quote_at, call_of};
 
-use calls::{Call, Kind, Market, Trade};
+use calls::{Call, Kind, Trade};
+use funding::market::Market;
 use tags::Tag;
 
 // Numbers of two and of four bytes, which are required to lie within the file.

@@ -1,6 +1,7 @@
 -- What is said of calls of one kind, and `other` of all others.
 use Rattle.std.specs.Prelude.{ℕ}
-use Rattle.calls.specs.declared.{Market.Market, Trade.Trade, Call.Call}
+use Rattle.funding.specs.declared.market.Market.{Market}
+use Rattle.calls.specs.declared.{Trade.Trade, Call.Call}
 use Rattle.calls.specs.declared.Call.TheVariants as call
 
 module _ {A : Type 0} where

@@ -1,4 +1,3 @@
 pub mod Calls
 pub mod Length
-pub mod Market
 pub mod Trade

@@ -1,13 +1,12 @@
-// The calls of a trade date, with the markets, trades and lengths of day that they bring.
+// The calls of a trade date, with the trades and lengths of day that they bring.
 #![tactic(auto)]
 
 ghost use Rattle.std.specs.Prelude.{◌≡◌};
-ghost use Rattle.calls.specs.Market.{two_sided, uncrossed, as_minute, is_valid, market_holds, minute_market_holds};
 ghost use Rattle.calls.specs.Trade.{kind_of, trade_outside};
 ghost use Rattle.calls.specs.Length.{is_length};
 
-use funding::{MOST_MINUTES, Terms};
-use prices::none_or_ticked;
+use funding::MOST_MINUTES;
+use funding::market::Market;
 
 pub const MOST_QUANTITY: u32 = 100_000;
 
@@ -16,13 +15,6 @@ pub const LEAST_BLOCK: u32 = 250;
 pub const FULL_DAY: u32 = MOST_MINUTES;
 
 pub const SHORT_DAY: u32 = 1_140;
-
-// A market, or one side of it: 0 where a side doesn't stand.
-#[derive(Clone, Copy)]
-pub struct Market {
-    pub bid: u32,
-    pub offer: u32,
-}
 
 // The kind of a trade.
 #[derive(Clone, Copy, Debug, PartialEq, Eq)]
@@ -75,55 +67,6 @@ pub fn is_length(minutes: u32) -> bool
     ensures { result ≡ is_length minutes }
 {
     (minutes == FULL_DAY) | (minutes == SHORT_DAY)
-}
-
-impl Market {
-    fn is_two_sided(self) -> bool
-        ensures { result ≡ two_sided self }
-    {
-        (self.bid != 0) & (self.offer != 0)
-    }
-
-    pub fn is_uncrossed(self) -> bool
-        ensures { result ≡ uncrossed self }
-    {
-        !((self.bid != 0) & (self.offer != 0)) | (self.bid < self.offer)
-    }
-
-    // This market where both its sides stand, else the other.
-    pub fn as_minute(self, otherwise: Market) -> Market
-        ensures { result ≡ as_minute self otherwise }
-    {
-        if self.is_two_sided() { self } else { otherwise }
-    }
-
-    // Whether the minute that ends with this market and this index is valid.
-    pub fn is_valid(self, halted: bool, index: u32, terms: Terms) -> bool
-        ensures { result ≡ is_valid terms halted self index }
-    {
-        if halted {
-            return false;
-        }
-        if !self.is_two_sided() {
-            return false;
-        }
-        if index == 0 {
-            return false;
-        }
-        funding::within_spread(self.bid, self.offer, terms)
-    }
-
-    pub fn holds(self) -> bool
-        ensures { result ≡ market_holds self }
-    {
-        none_or_ticked(self.bid) & none_or_ticked(self.offer) & self.is_uncrossed()
-    }
-
-    pub fn holds_minute(self) -> bool
-        ensures { result ≡ minute_market_holds self }
-    {
-        self.holds() & (self.is_two_sided() | ((self.bid == 0) & (self.offer == 0)))
-    }
 }
 
 impl Trade {

@@ -17,8 +17,8 @@ use Rattle.settlement.specs.declared.FinalMinute.{FinalMinute}
 use Rattle.prices.specs.Price.{least_price, largest_price, none_or_price, none_or_ticked}
 use Rattle.funding.specs.Minute.{weighted_limit, most_minutes}
 use Rattle.prices.proofs.Prices.{ticked_price}
-use Rattle.calls.specs.declared.Market.{Market}
-use Rattle.calls.specs.Market.{two_sided, uncrossed, market_holds, minute_market_holds}
+use Rattle.funding.specs.declared.market.Market.{Market}
+use Rattle.funding.specs.Market.{two_sided, uncrossed, market_holds, minute_market_holds}
 use Rattle.calls.specs.Length.{is_length}
 use Rattle.calls.proofs.Length.{length_most}
 use Rattle.day.specs.declared.Day.{Day}

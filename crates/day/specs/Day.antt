@@ -4,7 +4,8 @@ use lib.{Dec.leb, Dec.ltb, Dec.eqb, IntN.pos}
 use Rattle.prices.specs.Price.{is_present}
 use Rattle.funding.specs.Minute.{Minute, futures_price}
 use Rattle.settlement.specs.declared.FinalMinute.{FinalMinute}
-use Rattle.calls.specs.{declared.Market.Market, declared.Trade.Trade, Market.no_market, Trade.is_simple, Length.full_day}
+use Rattle.funding.specs.{declared.market.Market.Market, Market.no_market}
+use Rattle.calls.specs.{declared.Trade.Trade, Trade.is_simple, Length.full_day}
 use Rattle.day.specs.declared.{Day.Day, Markets.Markets}
 
 -- its minutes: 02-1, "the last minute in document 01 is the day's own everywhere"

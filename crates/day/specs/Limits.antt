@@ -4,7 +4,8 @@ use Rattle.integers.specs.Size.{within}
 use Rattle.prices.specs.Price.{least_price, largest_price, none_or_price}
 use Rattle.funding.specs.Minute.{weighted_limit}
 use Rattle.settlement.specs.declared.FinalMinute.{FinalMinute}
-use Rattle.calls.specs.{Market.market_holds, Market.minute_market_holds, Length.full_day, Length.is_length}
+use Rattle.funding.specs.{Market.market_holds, Market.minute_market_holds}
+use Rattle.calls.specs.{Length.full_day, Length.is_length}
 use Rattle.day.specs.{declared.Day.Day, Day.day_length, Day.is_fixed, declared.Markets.Markets}
 
 -- 02-1: "A book's length is one of the two, its ended minutes within it"; 01: "valid count k at most the ended minutes; weighted sum S at most 9,999 × 10^9 × k(k+1)/2 in size"

@@ -3,7 +3,8 @@
 use mathlib.Core.{Path.◌≡◌, Bool.true, Bool.false}
 use Rattle.std.specs.Prelude.{ℕ}
 use Rattle.funding.specs.Terms.{standard_terms}
-use Rattle.calls.specs.{declared.Market.Market, declared.Trade.Trade, Market.no_market, Market.as_minute, Market.is_valid, Trade.kind_of, Length.full_day, Length.short_day}
+use Rattle.funding.specs.{declared.market.Market.Market, Market.no_market, Market.as_minute, Market.is_valid}
+use Rattle.calls.specs.{declared.Trade.Trade, Trade.kind_of, Length.full_day, Length.short_day}
 use Rattle.day.specs.Day.{is_final}
 
 abbrev market : ℕ → ℕ → Market

@@ -5,7 +5,8 @@ ghost use Rattle.std.specs.Prelude.{◌≡◌};
 ghost use Rattle.day.specs.Day.{day_length, no_markets, empty_day, in_last_minute, forbids_minute_end, forbids_fix};
 ghost use Rattle.day.specs.Limits.{markets_hold, minutes_hold, final_holds, day_holds};
 
-use calls::{FULL_DAY, Market, is_length};
+use calls::{FULL_DAY, is_length};
+use funding::market::Market;
 use integers::is_within;
 use prices::{LARGEST_PRICE, LEAST_PRICE, none_or_price};
 use settlement::FinalMinute;
@@ -13,7 +14,7 @@ use settlement::FinalMinute;
 pub const MOST_AMOUNT: u64 = 10_000;
 
 // What minute ends set.
-#[derive(Clone, Copy)]
+#[derive(Clone, Copy, Default)]
 pub struct Minutes {
     // valid count k, and weighted sum S
     pub valid: u32,
@@ -25,14 +26,14 @@ pub struct Minutes {
 }
 
 // What quotes and halts set: the standing market and the minute's market.
-#[derive(Clone, Copy)]
+#[derive(Clone, Copy, Default)]
 pub struct Markets {
     pub standing: Market,
     pub minute: Market,
 }
 
 // What trades set.
-#[derive(Clone, Copy)]
+#[derive(Clone, Copy, Default)]
 pub struct Trades {
     // the last trade
     pub last: u32,
@@ -41,7 +42,7 @@ pub struct Trades {
 }
 
 // What a fix sets. A price of 0 means that the day isn't fixed.
-#[derive(Clone, Copy)]
+#[derive(Clone, Copy, Default)]
 pub struct Fixed {
     pub price: u32,
     pub amount: i64,
@@ -70,10 +71,7 @@ impl Markets {
     pub fn none() -> Self
         ensures { result ≡ no_markets }
     {
-        Self {
-            standing: Market { bid: 0, offer: 0 },
-            minute: Market { bid: 0, offer: 0 },
-        }
+        Self::default()
     }
 
     // Whether both are within their limits.
@@ -100,28 +98,14 @@ impl Day {
         ensures { result ≡ empty_day }
     {
         Self {
-            minutes: Minutes {
-                ended: 0,
-                valid: 0,
-                weighted: 0,
-                index: 0,
-            },
+            fixed: Fixed::default(),
+            trades: Trades::default(),
             markets: Markets::none(),
-            trades: Trades {
-                last: 0,
-                settling: FinalMinute {
-                    contracts: 0,
-                    gross: 0,
-                },
-            },
-            fixed: Fixed {
-                price: 0,
-                amount: 0,
-            },
             session: Session {
                 length: FULL_DAY,
                 begun: false,
             },
+            minutes: Minutes::default(),
         }
     }
 

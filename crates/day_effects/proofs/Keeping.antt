@@ -20,9 +20,9 @@ use Rattle.funding.specs.Minute.{within_spread, futures_price, basis_of, accrued
 use Rattle.funding.specs.declared.Terms.{Terms}
 use Rattle.prices.proofs.Prices.{price_to, the_price}
 use Rattle.funding.proofs.Bounds.{basis_size, futures_is_price, accrued_size}
-use Rattle.calls.specs.declared.Market.{Market}
+use Rattle.funding.specs.declared.market.Market.{Market}
 use Rattle.calls.specs.declared.Trade.{Trade}
-use Rattle.calls.specs.Market.{no_market, two_sided, as_minute, is_valid, market_holds, minute_market_holds}
+use Rattle.funding.specs.Market.{no_market, two_sided, as_minute, is_valid, market_holds, minute_market_holds}
 use Rattle.calls.specs.Length.{full_day, is_length}
 use Rattle.calls.specs.Trade.{most_quantity, kind_outside, trade_outside}
 use Rattle.day.specs.declared.Day.{Day}

@@ -1,7 +1,8 @@
 -- What quotes, trades, minute ends and a length do to the day: document 01, "A trade date, call by call".
 use Rattle.std.specs.Prelude.{Bool, true, cond, ℕ, ◌+◌, ℤ}
 use Rattle.funding.specs.Minute.{basis_of, accrued}
-use Rattle.calls.specs.{declared.Market.Market, declared.Trade.Trade, Market.no_market, Market.as_minute}
+use Rattle.funding.specs.{declared.market.Market.Market, Market.no_market, Market.as_minute}
+use Rattle.calls.specs.declared.Trade.{Trade}
 use Rattle.day.specs.{declared.Minutes.Minutes, declared.Markets.Markets, declared.Trades.Trades, declared.Fixed.Fixed, declared.Session.Session, declared.Day.Day, Day.day_length, Day.in_last_minute, Day.is_final, Day.with_trade, Day.minute_of}
 
 -- ---- a part of a day, changed

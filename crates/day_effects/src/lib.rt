@@ -9,8 +9,9 @@ ghost use Rattle.day_effects.specs.Effects.{quoted as Effects·quoted};
 ghost use Rattle.day_effects.specs.Effects.{traded as Effects·traded};
 ghost use Rattle.day_effects.specs.Inner.{RoomForTrade, Endable};
 
-use calls::{Kind, Market, Trade};
+use calls::{Kind, Trade};
 use day::{Day, Fixed, Markets, Trades};
+use funding::market::Market;
 use settlement::FinalMinute;
 
 fn quoted_markets(markets: Markets, market: Market) -> Markets
@@ -26,7 +27,7 @@ fn next_minute(markets: Markets) -> Markets
     ensures { result ≡ next_minute markets }
 {
     let mut after = markets;
-    after.minute = markets.standing.as_minute(Market { bid: 0, offer: 0 });
+    after.minute = markets.standing.as_minute(Market::default());
     after
 }
 
@@ -71,8 +72,7 @@ fn weighted_after(day: Day, valid: bool, index: u32) -> i64
     ensures { result ≡ weighted_after day valid index }
 {
     if valid {
-        let minute = day.markets.minute;
-        let futures = funding::futures_price(minute.bid, minute.offer, day.trades.last);
+        let futures = day.markets.minute.futures_price(day.trades.last);
         let basis = funding::basis(futures, index);
         funding::accrue(day.minutes.weighted, day.minutes.valid, basis)
     } else {

@@ -1,33 +1,41 @@
 -- The reader goes forward and stays within the file.
 --     forward        at every place, whatever is read there
---     forward_to     the same of what is known to be read at a place
+--     further_to     the record after one that was read starts further on, and within the file
 -- Assumes nothing.
-use Prim.Native.Nat.{ℕ, ◌≤◌}
-use mathlib.Core.Path.{◌≡◌, subst}
+use Prim.Native.Nat.{ℕ, ◌<◌, ◌≤◌}
+use mathlib.Core.Path.{◌≡◌, refl, subst}
 use mathlib.Core.List.{List}
 use native.Mathlib.Omega.{arith}
-use borrow.Author.Tests.{ltb-false}
+use borrow.Author.Tests.{leb-false, ltb-false}
 use lib.ListN.{length}
 use lib.Dec.{ltb, leb, eqb}
 use Rattle.integers.proofs.Tests.{by_test}
-use Rattle.std.specs.Prelude.{Option, Some, None}
+use Rattle.std.specs.Prelude.{Option, Some, None, Result, Ok, Err}
 use Rattle.tags.specs.declared.Tag.{Tag}
 use Rattle.tags.specs.Tags.{tag_of, body_length}
 use Rattle.bodies.specs.Body.{byte_at}
+use Rattle.calls.specs.declared.Call.{Call}
+use Rattle.dayfile.specs.declared.RecordError.{RecordError}
+use Rattle.dayfile.specs.declared.RecordError.TheVariants as error
 use Rattle.dayfile.specs.declared.Read.{Read}
-use Rattle.dayfile.specs.Record.{stated_length, next_at, complete, read_at, Onward, Forward}
+use Rattle.dayfile.specs.Record.{stated_length, next_at, complete, read_at, Leads, Onward, Forward}
 
-complete_onward : (file : List ℕ) (at : ℕ) (t : Option Tag) → next_at file at ≤ length file → Onward file at (complete file at t)
-complete_onward file at None h = (omega arith, h)
-complete_onward file at (Some t) h =
-    by_test (eqb (stated_length file at) (body_length t)) (Onward file at) (λ _. (omega arith, h)) (λ _. (omega arith, h))
+complete_leads : (file : List ℕ) (at : ℕ) (t : Option Tag) → next_at file at ≤ length file → Leads file at (next_at file at) (complete file at t)
+complete_leads file at None h = (omega arith, h)
+complete_leads file at (Some t) h =
+    by_test (eqb (stated_length file at) (body_length t)) (Leads file at (next_at file at)) (λ _. (omega arith, h)) (λ _. (omega arith, h))
 
 pub forward : Forward
 unfolding read_at
 forward file at =
-    by_test (leb (length file) at) (Onward file at) (λ _. tt) (λ _.
-    by_test (ltb (length file) (next_at file at)) (Onward file at) (λ _. tt) (λ e.
-    complete_onward file at (tag_of (byte_at file at)) (ltb-false (length file) (next_at file at) e)))
+    by_test (leb (length file) at) (Onward file at) (λ _. tt) (λ before.
+    by_test (ltb (length file) (next_at file at)) (λ r. Onward file at (Some r)) (λ _. (leb-false (length file) at before, refl)) (λ e.
+    complete_leads file at (tag_of (byte_at file at)) (ltb-false (length file) (next_at file at) e)))
 
-pub forward_to : (file : List ℕ) (at : ℕ) (r : Read) → read_at file at ≡ r → Onward file at r
-forward_to file at r e = subst (Onward file at) e (forward file at)
+further : (file : List ℕ) (at next : ℕ) (call : Result (Option Call) RecordError) → Leads file at next call → (at < next) × (next ≤ length file)
+further file at next (Ok call) l = (omega (arith, l.0), l.1)
+further file at next (Err error.WrongLength) l = (omega (arith, l.0), l.1)
+further file at next (Err error.CutOff) l = (l.0, omega (arith, l.1))
+
+pub further_to : (file : List ℕ) (at : ℕ) (r : Read) → read_at file at ≡ Some r → (at < r.next) × (r.next ≤ length file)
+further_to file at r e = further file at r.next r.call (subst (Onward file at) e (forward file at))

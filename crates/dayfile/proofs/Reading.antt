@@ -5,9 +5,10 @@
 --     right_length, wrong_length     a complete record of a known tag
 --     record_at, known_at     a record at a place is complete, and is read as its call
 --     number_at   the number of what is read is that of the bytes
+--     refusal_at_end   the number 0 at the file's end
 -- Assumes nothing.
 use Prim.Native.Nat.{ℕ, zero, suc, ◌+◌, ◌≤◌, ◌<◌}
-use mathlib.Core.Path.{◌≡◌, refl, ◌∙◌, ap}
+use mathlib.Core.Path.{◌≡◌, refl, sym, ◌∙◌, ap}
 use mathlib.Core.Bool.{Bool, true, false, not, cond, ◌&&◌}
 use mathlib.Core.List.{List, [], ◌∷◌}
 use native.Mathlib.Omega.{arith}
@@ -17,31 +18,31 @@ use lib.ListN.{length}
 use Rattle.integers.proofs.Tests.{tests, both_true}
 use Rattle.tags.specs.declared.Tag.{Tag}
 use Rattle.tags.specs.declared.Tag.TheVariants as tag
-use Rattle.std.specs.Prelude.{Option, Some, None}
+use Rattle.std.specs.Prelude.{Option, Some, None, Ok, Err}
 use Rattle.tags.specs.Tags.{tag_of, byte_of, body_length}
 use Rattle.bodies.specs.Body.{byte_at, call_of}
-use Rattle.dayfile.specs.declared.Read.TheVariants as read
-use Rattle.dayfile.specs.Record.{is_record_at, body_at, stated_length, next_at, complete, read_at, read_number, is_wrong_length, record_refusal}
+use Rattle.dayfile.specs.declared.RecordError.TheVariants as error
+use Rattle.dayfile.specs.Record.{is_record_at, body_at, stated_length, next_at, complete, read_at, call_number, read_number, is_wrong_length, record_refusal}
 
 module _ (file : List ℕ) (at : ℕ) where
-  pub at_end : length file ≤ at → read_at file at ≡ read.End
+  pub at_end : length file ≤ at → read_at file at ≡ None
   unfolding read_at
   at_end h = simp (le-leb (length file) at h)
 
-  pub cut_off : at < length file → length file < next_at file at → read_at file at ≡ read.CutOff
+  pub cut_off : at < length file → length file < next_at file at → read_at file at ≡ Some (record { next = length file; call = Err error.CutOff })
   unfolding read_at
   cut_off h k = simp (lt-leb (length file) at h, lt-ltb (length file) (next_at file at) k)
 
-  pub whole : next_at file at ≤ length file → read_at file at ≡ complete file at (tag_of (byte_at file at))
+  pub whole : next_at file at ≤ length file → read_at file at ≡ Some (record { next = next_at file at; call = complete file at (tag_of (byte_at file at)) })
   unfolding read_at
   whole h = simp (lt-leb (length file) at (omega arith), le-ltb (length file) (next_at file at) h)
 
   pub right_length : (t : Tag) → tag_of (byte_at file at) ≡ Some t → stated_length file at ≡ body_length t
-      → complete file at (tag_of (byte_at file at)) ≡ read.Known (next_at file at) (call_of file t (body_at at))
+      → complete file at (tag_of (byte_at file at)) ≡ Ok (Some (call_of file t (body_at at)))
   right_length t e h = simp (e, eq-eqb (stated_length file at) (body_length t) h)
 
   pub wrong_length : (t : Tag) → tag_of (byte_at file at) ≡ Some t → (stated_length file at ≡ body_length t → ⊥)
-      → complete file at (tag_of (byte_at file at)) ≡ read.WrongLength (next_at file at)
+      → complete file at (tag_of (byte_at file at)) ≡ Err error.WrongLength
   wrong_length t e h = simp (e, ne_eqb (stated_length file at) (body_length t) h)
 
   -- a tag's byte is read as that tag
@@ -69,12 +70,13 @@ module _ (file : List ℕ) (at : ℕ) where
   pub record_at : (t : Tag) → is_record_at file at t ≡ true → body_at at + body_length t ≤ length file
   record_at t h = (record-tests t h).0
 
-  pub known_at : (t : Tag) → is_record_at file at t ≡ true → read_at file at ≡ read.Known (body_at at + body_length t) (call_of file t (body_at at))
+  pub known_at : (t : Tag) → is_record_at file at t ≡ true → read_at file at ≡ Some (record { next = body_at at + body_length t; call = Ok (Some (call_of file t (body_at at))) })
   known_at t h =
       let k = record-tests t h in
       let stated = k.2 in
-      whole (omega (arith, k.0, stated)) ∙ right_length t (ap tag_of k.1 ∙ byte_read t) stated
-      ∙ ap (λ n. read.Known (body_at at + n) (call_of file t (body_at at))) stated
+      whole (omega (arith, k.0, stated))
+      ∙ ap (λ c. Some (record { next = next_at file at; call = c })) (right_length t (ap tag_of k.1 ∙ byte_read t) stated)
+      ∙ ap (λ n. Some (record { next = body_at at + n; call = Ok (Some (call_of file t (body_at at))) })) stated
 
 -- ---- refusal 1
 
@@ -84,12 +86,11 @@ past_end [] at h = refl
 past_end (x ∷ file) zero h = absurd (omega arith)
 past_end (x ∷ file) (suc at) h = past_end file at (omega arith)
 
-completed : (file : List ℕ) (at : ℕ) (t : Option Tag) → read_number (complete file at t) ≡ cond (is_wrong_length t (stated_length file at)) 1 0
+completed : (file : List ℕ) (at : ℕ) (t : Option Tag) → call_number (complete file at t) ≡ cond (is_wrong_length t (stated_length file at)) 1 0
 completed file at None = refl
 completed file at (Some t) = by (eqb (stated_length file at) (body_length t))
   where
-    by : (right : Bool)
-        → read_number (cond right (read.Known (next_at file at) (call_of file t (body_at at))) (read.WrongLength (next_at file at))) ≡ cond (not right) 1 0
+    by : (right : Bool) → call_number (cond right (Ok (Some (call_of file t (body_at at)))) (Err error.WrongLength)) ≡ cond (not right) 1 0
     by true = refl
     by false = refl
 
@@ -102,3 +103,7 @@ number_at file at = by (leb (length file) at) refl (ltb (length file) (next_at f
     by true e past f = rw (e, past_end file at (omega tests), le-ltb at (length file) (omega tests))
     by false e true f = rw (e, f, lt-ltb at (length file) (omega tests))
     by false e false f = rw (e, f, lt-ltb at (length file) (omega tests)) (completed file at (tag_of (byte_at file at)))
+
+-- nothing is left to refuse
+pub refusal_at_end : (file : List ℕ) (at : ℕ) → length file ≤ at → 0 ≡ record_refusal file at
+refusal_at_end file at h = sym (ap read_number (at_end file at h)) ∙ number_at file at

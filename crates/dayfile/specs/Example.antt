@@ -1,9 +1,9 @@
 -- One file with a record of each fate. The numbers are those of document 01's example.
 use mathlib.Core.{Path.◌≡◌, List.List, List.[], List.◌∷◌, List.◌++◌}
-use Rattle.std.specs.Prelude.{ℕ}
+use Rattle.std.specs.Prelude.{ℕ, Some, None, Ok, Err}
 use Rattle.calls.specs.declared.Call.TheVariants as call
 use Rattle.calls.specs.Trade.{kind_of}
-use Rattle.dayfile.specs.declared.Read.TheVariants as read
+use Rattle.dayfile.specs.declared.RecordError.TheVariants as error
 use Rattle.dayfile.specs.Calls.{records_of}
 
 -- quote 200100/200300
@@ -30,9 +30,9 @@ unfinished = 7 ∷ 0 ∷ []
 abbrev pub Example : Type 0
 Example =
     records_of (quoted ++ (foreign ++ (overlong ++ (traded ++ unfinished)))) ≡
-    read.Known 11 (call.Quote (record { bid = 200100; offer = 200300 }))
-    ∷ read.Unknown 15
-    ∷ read.WrongLength 19
-    ∷ read.Known 33 (call.Trade (record { buyer = 3; seller = 7; kind = kind_of 0; quantity = 12; price = 200200 }))
-    ∷ read.CutOff
+    record { next = 11; call = Ok (Some (call.Quote (record { bid = 200100; offer = 200300 }))) }
+    ∷ record { next = 15; call = Ok None }
+    ∷ record { next = 19; call = Err error.WrongLength }
+    ∷ record { next = 33; call = Ok (Some (call.Trade (record { buyer = 3; seller = 7; kind = kind_of 0; quantity = 12; price = 200200 }))) }
+    ∷ record { next = 35; call = Err error.CutOff }
     ∷ []

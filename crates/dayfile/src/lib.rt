@@ -13,30 +13,22 @@ use tags::Tag;
 // The bytes of a tag and a length.
 pub const HEAD: usize = 3;
 
-// What stands at a place of a file. The usize is the place of the next record. It comes first, so that it lies at one offset in
-// every variant and no call is put together over it.
-#[derive(Clone, Copy)]
-pub enum Read {
-    End,
+// Why a record is refused: document 01's refusal 1.
+#[derive(Clone, Copy, Debug, PartialEq, Eq)]
+pub enum RecordError {
+    // the file ends before the record does
     CutOff,
-    Known(usize, Call),
-    WrongLength(usize),
-    Unknown(usize),
+    // the tag is known, and the length is not that of its bodies
+    WrongLength,
 }
 
-impl Read {
-    // Refusal 1, or 0.
-    pub fn number(self) -> u8
-        ensures { result ≡ read_number self }
-    {
-        match self {
-            Read::End => 0,
-            Read::CutOff => 1,
-            Read::Known(_, _) => 0,
-            Read::WrongLength(_) => 1,
-            Read::Unknown(_) => 0,
-        }
-    }
+// A record of a file. The place of the next one comes first, so that no call is put together over it.
+#[derive(Clone, Copy)]
+pub struct Read {
+    // the place of the next record: the file's end after one that is cut off
+    pub next: usize,
+    // the record's call, or none where its tag is unknown
+    pub call: Result<Option<Call>, RecordError>,
 }
 
 // Whether a complete record of this tag and of its length stands at a place. The place is compared with the last one at which it
@@ -58,42 +50,43 @@ pub fn is_record_at(file: &[u8], at: usize, tag: Tag) -> bool
     two_bytes(file, at + 1) as usize == length
 }
 
-// The record at `at`, of the stated length, which lies within the file.
-fn complete_record(file: &[u8], at: usize, stated: usize) -> Read
+// The call of a record that lies within the file, of the stated length.
+fn complete_call(file: &[u8], at: usize, stated: usize) -> Result<Option<Call>, RecordError>
     requires { (stated ≡ stated_length file.now at) × (at + 3 + stated ≤ length file.now) }
     ensures { result ≡ complete file.now at (tag_of (byte_at file.now at)) }
 {
-    let body = at + HEAD;
-    let next = body + stated;
-    match Tag::try_from(file[at]) {
-        Err(_) => Read::Unknown(next),
-        Ok(tag) => {
-            if stated == tag.body_length() {
-                Read::Known(next, call_of(file, tag, body))
-            } else {
-                Read::WrongLength(next)
-            }
-        }
+    let Ok(tag) = Tag::try_from(file[at]) else {
+        return Ok(None);
+    };
+    if stated != tag.body_length() {
+        return Err(RecordError::WrongLength);
     }
+    Ok(Some(call_of(file, tag, at + HEAD)))
 }
 
-// What stands at a place of a file, whatever its bytes and wherever the place.
-#[tactic(auto, unfolding(crate::specs::Record::read_at))]
-pub fn read_record(file: &[u8], at: usize) -> Read
+// The record at a place of a file, whatever its bytes and wherever the place: none where nothing is left.
+#[tactic(auto, using(crate::proofs::Reading::refusal_at_end), unfolding(crate::specs::Record::read_at))]
+pub fn read_record(file: &[u8], at: usize) -> Option<Read>
     ensures record { result ≡ read_at file.now at }
     ensures number { read_number result ≡ record_refusal file.now at }
 {
     if file.len() <= at {
-        return Read::End;
+        return None;
     }
     let rest = file.len() - at;
+    let cut_off = Read {
+        next: file.len(),
+        call: Err(RecordError::CutOff),
+    };
     if rest < HEAD {
-        return Read::CutOff;
+        return Some(cut_off);
     }
     let stated = two_bytes(file, at + 1) as usize;
-    if stated <= rest - HEAD {
-        complete_record(file, at, stated)
-    } else {
-        Read::CutOff
+    if rest - HEAD < stated {
+        return Some(cut_off);
     }
+    Some(Read {
+        next: at + HEAD + stated,
+        call: complete_call(file, at, stated),
+    })
 }

@@ -1,3 +1,4 @@
 pub mod Terms
 pub mod Minute
 pub mod FuturesPrices
+pub mod Market

@@ -2,8 +2,10 @@
 // whole numbers. A price is in cents, a basis in nano (10^-9).
 #![tactic(auto)]
 
+pub mod market;
+
 ghost use Rattle.std.specs.Prelude.{◌≡◌, ◌<◌, ◌≤◌};
-ghost use Rattle.funding.specs.Minute.{within_spread, futures_price, basis_of, Accrues, accrued, weighted_limit, most_minutes};
+ghost use Rattle.funding.specs.Minute.{basis_of, Accrues, accrued, weighted_limit, most_minutes};
 
 // The minutes of the longest day.
 pub const MOST_MINUTES: u32 = 1_320;
@@ -19,29 +21,6 @@ pub struct Terms {
     pub below: u32,
     pub above: u32,
     pub spread: u16,
-}
-
-// The spread test. Sides that cross, which any two numbers may, differ by nothing.
-pub fn within_spread(bid: u32, offer: u32, terms: Terms) -> bool
-    ensures { result ≡ within_spread terms bid offer }
-{
-    if offer <= bid {
-        return true;
-    }
-    let b = bid as u64;
-    let a = offer as u64;
-    20_000 * (a - b) <= (terms.spread as u64) * (a + b)
-}
-
-// The futures price F of a minute.
-pub fn futures_price(bid: u32, offer: u32, last: u32) -> u32
-    ensures { result ≡ futures_price bid offer last }
-{
-    if (last != 0) & (bid <= last) & (last <= offer) {
-        last
-    } else {
-        ((bid as u64 + offer as u64) / 2) as u32
-    }
 }
 
 // The basis of a futures price against an index. An index of 0 means no sample, which has no basis: callers test it first.

@@ -3,8 +3,8 @@
 use mathlib.Core.{Bool.Bool, Bool.true, Bool.false, List.List, List.[], List.◌∷◌}
 use Rattle.std.specs.Prelude.{ℕ, length}
 use Rattle.integers.specs.{declared.Tie.Tie, declared.Tie.TheVariants.Even, Lists.keep_if}
-use Rattle.funding.specs.{declared.Terms.Terms, Terms.standard_terms, Minute.Minute}
-use Rattle.calls.specs.{declared.Market.Market, declared.Trade.Trade, declared.Call.Call, Market.no_market, Market.as_minute, Market.is_valid, Calls.on_quote, Calls.on_trade, Calls.on_halt, Calls.on_resume, Calls.by_call, Calls.on_minute_end, Calls.on_fix, Calls.on_close, Calls.on_day_length, Length.full_day}
+use Rattle.funding.specs.{declared.Terms.Terms, Terms.standard_terms, Minute.Minute, declared.market.Market.Market, Market.no_market, Market.as_minute, Market.is_valid}
+use Rattle.calls.specs.{declared.Trade.Trade, declared.Call.Call, Calls.on_quote, Calls.on_trade, Calls.on_halt, Calls.on_resume, Calls.by_call, Calls.on_minute_end, Calls.on_fix, Calls.on_close, Calls.on_day_length, Length.full_day}
 use Rattle.day.specs.Day.{is_final, minute_of}
 
 abbrev pub History : Type 0

@@ -9,11 +9,12 @@ ghost use Rattle.ledger.specs.Step.{answer_of, empty_book, report_refusal, repor
 ghost use Rattle.ledger.specs.Step.{opening as Step·opening};
 ghost use Rattle.ledger.specs.Step.{step as Step·step};
 
-use calls::{Call, Market, Trade};
+use calls::{Call, Trade};
 use checked::CheckedBook;
 use columns::{ACCOUNTS, Columns};
 use figures::product::Product;
 use figures::{Figures, Outcome};
+use funding::market::Market;
 use refusals::Refusal;
 
 pub mod checked;

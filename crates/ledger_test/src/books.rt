@@ -5,10 +5,11 @@ use crate::fields::{
     PREVIOUS_INDEX, PREVIOUS_PRICE, SIZE, VALID, VALID_MINUTES, VOLUME, WEIGHTED,
 };
 use crate::numbers::{HALF, as_signed, of_signed};
-use calls::{FULL_DAY, Market};
+use calls::FULL_DAY;
 use columns::ACCOUNTS;
 use day::{Day, Fixed, Markets, Minutes, Session, Trades};
 use figures::Figures;
+use funding::market::Market;
 use ledger::Book;
 use settlement::{FinalMinute, Previous};
 

@@ -7,6 +7,7 @@ ghost use Rattle.funding.specs.Minute.{weighted_limit};
 
 use crate::print::{end_line, number, signed, text};
 use figures::product::Product;
+use funding::market::Market;
 use integers::Tie;
 use std::io;
 
@@ -29,8 +30,9 @@ fn normalized_spread(bid: u32, offer: u32, scale: u32) -> i64
 
 // The futures price of a market that is narrow enough, else 0.
 fn valid_price(bid: u32, offer: u32, last: u32) -> u32 {
-    if funding::within_spread(bid, offer, Product::terms()) {
-        funding::futures_price(bid, offer, last)
+    let market = Market { bid, offer };
+    if market.is_within_spread(Product::terms()) {
+        market.futures_price(last)
     } else {
         0
     }
@@ -48,7 +50,7 @@ pub fn spread(
 ) -> io::Result<()>
     requires { (0 < bid) × (scale ≤ 10000000) }
 {
-    let is_valid = funding::within_spread(bid, offer, Product::terms());
+    let is_valid = Market { bid, offer }.is_within_spread(Product::terms());
     text(rt, b"spread")?;
     number(rt, bid)?;
     number(rt, offer)?;
@@ -91,8 +93,9 @@ pub fn minute(day: Weighted, bid: u32, offer: u32, last: u32, index: u32) -> Wei
         × (is_price bid ≡ true) × (is_price offer ≡ true) × (is_price last ≡ true) × (is_price index ≡ true) }
     ensures { (nat_abs result.sum ≤ weighted_limit result.count) × (result.count ≤ day.count + 1) }
 {
-    if funding::within_spread(bid, offer, Product::terms()) {
-        weigh(day, funding::futures_price(bid, offer, last), index)
+    let market = Market { bid, offer };
+    if market.is_within_spread(Product::terms()) {
+        weigh(day, market.futures_price(last), index)
     } else {
         day
     }

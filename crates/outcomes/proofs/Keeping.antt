@@ -19,10 +19,10 @@ use Rattle.settlement.proofs.Bounds.{amount_size, settlement_is_price}
 use Rattle.day.specs.declared.Day.{Day}
 use Rattle.figures.specs.declared.Figures.{Figures}
 use Rattle.calls.specs.declared.Call.TheVariants as call
-use Rattle.calls.specs.declared.Market.{Market}
+use Rattle.funding.specs.declared.market.Market.{Market}
 use Rattle.calls.specs.declared.Trade.{Trade}
 use Rattle.calls.specs.declared.Call.{Call}
-use Rattle.calls.specs.Market.{no_market, as_minute, uncrossed, market_holds, minute_market_holds}
+use Rattle.funding.specs.Market.{no_market, as_minute, uncrossed, market_holds, minute_market_holds}
 use Rattle.calls.specs.Length.{is_length}
 use Rattle.day.specs.Day.{day_length, is_fixed}
 use Rattle.figures.specs.Figures.{terms_on, tie_on, tenth}

@@ -4,7 +4,8 @@ use Rattle.day.specs.{declared.Fixed.Fixed, declared.Day.Day, Day.no_markets, Da
 use Rattle.day_effects.specs.Effects.{with_markets, with_minutes, with_trades, with_fixed, quoted, traded, minute_ended, next_minute, begun, with_length}
 use Rattle.figures.specs.{declared.Figures.Figures, declared.Fixing.Fixing, Figures.terms_on, Fixing.fix_price, Fixing.fix_amount, Fixing.fixing_at}
 use Rattle.calls.specs.declared.Call.TheVariants as call
-use Rattle.calls.specs.{declared.Call.Call, Calls.on_fix, Market.is_valid}
+use Rattle.funding.specs.Market.{is_valid}
+use Rattle.calls.specs.{declared.Call.Call, Calls.on_fix}
 
 abbrev pub with_day : Figures → Bool → Day → Figures
 with_day f halted d = record { size = f.size; closed = f.closed; halted = halted; previous = f.previous; day = d }

@@ -9,9 +9,10 @@ ghost use Rattle.figures.specs.Fixing.{Fixable};
 ghost use Rattle.outcomes.specs.Effects.{with_begun_day, figures_after};
 ghost use Rattle.outcomes.specs.Outcome.{outcome};
 
-use calls::{Call, Market, Trade};
+use calls::{Call, Trade};
 use day::Day;
 use figures::{Figures, Outcome};
+use funding::market::Market;
 use settlement::Previous;
 
 // Sets the day, which has begun with this call.

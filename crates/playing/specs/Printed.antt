@@ -1,13 +1,12 @@
 -- What `funding-bench` prints for each record of a file.
 use mathlib.Core.{Bool.cond, List.List}
-use Rattle.std.specs.Prelude.{ℕ, ◌+◌}
+use Rattle.std.specs.Prelude.{ℕ, ◌+◌, Option, Some, None, Result, Ok, Err}
 use lib.{Dec.eqb, IntN.ℤ}
 use Rattle.calls.specs.{declared.Call.Call, Calls.on_fix, Calls.on_close}
 use Rattle.figures.specs.declared.Fixing.{Fixing}
 use Rattle.columns.specs.Columns.{accounts}
 use Rattle.ledger.specs.{declared.Book.Book, declared.Answer.Answer, Step.step, Inner.book_of}
-use Rattle.dayfile.specs.{declared.Read.Read, Record.read_number}
-use Rattle.dayfile.specs.declared.Read.TheVariants as read
+use Rattle.dayfile.specs.{declared.RecordError.RecordError, declared.Read.Read, Record.call_number}
 use Rattle.playing.specs.declared.{Printed.Printed, Played.Played}
 use Rattle.playing.specs.declared.Printed.TheVariants as printed
 
@@ -32,15 +31,16 @@ abbrev pub played : Answer → Call → ℕ → AfterRecord
 played a c place = record { printed = printed_by a.code a.fixing a.book.figures.closed c place; book = a.book }
 
 -- a record that makes no call on the book: it is refused by 1, or prints nothing
-abbrev pub not_played : Book → Read → ℕ → AfterRecord
-not_played b r place = record { printed = printed_number (read_number r) place printed.Nothing; book = b }
+abbrev pub not_played : Book → Result (Option Call) RecordError → ℕ → AfterRecord
+not_played b call place = record { printed = printed_number (call_number call) place printed.Nothing; book = b }
+
+abbrev pub played_call : Book → Result (Option Call) RecordError → ℕ → AfterRecord
+played_call b (Ok None) place = not_played b (Ok None) place
+played_call b (Ok (Some c)) place = played (step accounts b c) c place
+played_call b (Err e) place = not_played b (Err e) place
 
 abbrev pub played_record : Book → Read → ℕ → AfterRecord
-played_record b read.End place = not_played b read.End place
-played_record b read.CutOff place = not_played b read.CutOff place
-played_record b (read.Known next c) place = played (step accounts b c) c place
-played_record b (read.WrongLength next) place = not_played b (read.WrongLength next) place
-played_record b (read.Unknown next) place = not_played b (read.Unknown next) place
+played_record b r place = played_call b r.call place
 
 -- ---- what the function promises: the same from the figures and the lent columns
 abbrev pub played_of : Played → List ℤ → List ℤ → List ℤ → List ℕ → List ℤ → AfterRecord

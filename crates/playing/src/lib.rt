@@ -4,7 +4,6 @@
 ghost use Rattle.std.specs.Prelude.{◌≡◌};
 ghost use Rattle.columns.specs.Columns.{accounts};
 ghost use Rattle.ledger.specs.Inner.{book_of, WithinLimits};
-ghost use Rattle.dayfile.specs.Record.{read_number};
 ghost use Rattle.playing.specs.Printed.{printed_number, printed_by, played_of, played_record};
 
 use calls::Call;
@@ -62,16 +61,6 @@ fn printed_by(outcome: Outcome, call: Call, place: u64) -> Printed
     }
 }
 
-// A record that makes no call leaves the book as it is.
-fn not_played(figures: Figures, read: Read, place: u64) -> Played
-    ensures { result ≡ record { printed = printed_number (read_number read) place Printed.Nothing; figures = figures } }
-{
-    Played {
-        printed: printed_number(read.number(), place),
-        figures,
-    }
-}
-
 // What was read at a place of the file, on the figures by value and the lent columns of a book within its limits.
 pub fn play_record(
     figures: Figures,
@@ -89,10 +78,8 @@ pub fn play_record(
         played_of result opening.new position.new cost.new volume.new cash.new
         ≡ played_record b read place }
 {
-    match read {
-        Read::End => not_played(figures, read, place),
-        Read::CutOff => not_played(figures, read, place),
-        Read::Known(_, call) => {
+    match read.call {
+        Ok(Some(call)) => {
             let outcome = step_on(figures, opening, position, cost, volume, cash, call);
             let printed = printed_by(outcome, call, place);
             let after = outcome.figures;
@@ -101,7 +88,13 @@ pub fn play_record(
                 figures: after,
             }
         }
-        Read::WrongLength(_) => not_played(figures, read, place),
-        Read::Unknown(_) => not_played(figures, read, place),
+        Ok(None) => Played {
+            printed: Printed::Nothing,
+            figures,
+        },
+        Err(_) => Played {
+            printed: Printed::Refused { number: 1, place },
+            figures,
+        },
     }
 }

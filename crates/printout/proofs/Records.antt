@@ -2,14 +2,13 @@
 --     text_short           how long the lines of one record are
 --     records_short        and those of all records of a file
 --     kept                 a record leaves a book within its limits
---     further              the record after this one starts further on in the file
 --     lines_left           the lines from a place on
 --     played_within, played_lines      a record that was played leaves a book within its limits, and its lines stand before those that follow
---     lines_next, no_lines      the lines from a place on: those of the record there before those that follow, and none at the file's end
+--     lines_next, no_lines      the lines from a place on: those of the record there before those that follow, and none where nothing is left
 -- Assumes nothing.
 use mathlib.Core.Path.{◌≡◌, sym, ◌∙◌, ap, subst}
 use mathlib.Core.List.{List, [], ◌∷◌, ◌++◌}
-use Prim.Native.Nat.{ℕ, zero, suc, ◌+◌, ◌*◌, ◌<◌, ◌≤◌}
+use Prim.Native.Nat.{ℕ, zero, suc, ◌+◌, ◌*◌, ◌≤◌}
 use native.Mathlib.Omega.{arith}
 use lib.IntN.{ℤ}
 use lib.ListN.{length, length-append}
@@ -18,17 +17,17 @@ use Rattle.columns.specs.Columns.{accounts}
 use Rattle.ledger.specs.declared.Book.{Book}
 use Rattle.ledger.specs.Inner.{WithinLimits}
 use Rattle.ledger.proofs.Keeping.{stays_within}
+use Rattle.std.specs.Prelude.{Option, Some, None, Result, Ok, Err}
+use Rattle.calls.specs.declared.Call.{Call}
+use Rattle.dayfile.specs.declared.RecordError.{RecordError}
 use Rattle.dayfile.specs.declared.Read.{Read}
-use Rattle.dayfile.specs.declared.Read.TheVariants as read
-use Rattle.dayfile.specs.Record.{read_at, Onward}
+use Rattle.dayfile.specs.Record.{read_at}
 use Rattle.dayfile.specs.Calls.{followed, records_within, records_from, records_of}
-use Rattle.dayfile.proofs.Reading.{at_end}
-use Rattle.dayfile.proofs.Forward.{forward_to}
 use Rattle.dayfile.proofs.Calls.{records_at}
 use Rattle.playing.specs.declared.Printed.{Printed}
 use Rattle.playing.specs.declared.Printed.TheVariants as printed
-use Rattle.playing.specs.Printed.{AfterRecord, played_record}
-use Rattle.printout.specs.Printout.{Lines, text_of, before, after_read, after_records}
+use Rattle.playing.specs.Printed.{AfterRecord, played_call, played_record}
+use Rattle.printout.specs.Printout.{Lines, text_of, before, after_records}
 
 abbrev pub longest_text : ℕ
 longest_text = accounts * longest_account
@@ -40,12 +39,9 @@ text_short (printed.Day day fixing) position cash = omega (arith, day_short day 
 text_short printed.Accounts position cash = accounts_short accounts position cash
 
 -- a file has no more records than bytes
-few_followed : (r : Read) (rest : ℕ → List Read) (most : ℕ) → ((next : ℕ) → length (rest next) ≤ most) → length (followed r rest) ≤ suc most
-few_followed read.End rest most h = omega arith
-few_followed read.CutOff rest most h = omega arith
-few_followed (read.Known next c) rest most h = omega (arith, h next)
-few_followed (read.WrongLength next) rest most h = omega (arith, h next)
-few_followed (read.Unknown next) rest most h = omega (arith, h next)
+few_followed : (r : Option Read) (rest : ℕ → List Read) (most : ℕ) → ((next : ℕ) → length (rest next) ≤ most) → length (followed r rest) ≤ suc most
+few_followed None rest most h = omega arith
+few_followed (Some r) rest most h = omega (arith, h r.next)
 
 few : (most : ℕ) (file : List ℕ) (at : ℕ) → length (records_within most file at) ≤ most
 unfolding records_within
@@ -65,39 +61,21 @@ records_short b file = omega (arith, lines_short b 1 (records_of file), few (len
 
 -- a record leaves a book within its limits
 pub kept : (b : Book) (r : Read) (place : ℕ) → WithinLimits accounts b → WithinLimits accounts (played_record b r place).book
-kept b read.End place w = w
-kept b read.CutOff place w = w
-kept b (read.Known next c) place w = stays_within accounts b c w
-kept b (read.WrongLength next) place w = w
-kept b (read.Unknown next) place w = w
+kept b r place w = by r.call
+  where
+    by : (call : Result (Option Call) RecordError) → WithinLimits accounts (played_call b call place).book
+    by (Ok None) = w
+    by (Ok (Some c)) = stays_within accounts b c w
+    by (Err e) = w
 
-onward : (file : List ℕ) (at : ℕ) (r : Read) → at < length file → Onward file at r → (at < after_read r (length file)) × (after_read r (length file) ≤ length file)
-onward file at read.End h o = omega arith
-onward file at read.CutOff h o = omega arith
-onward file at (read.Known next c) h o = omega arith
-onward file at (read.WrongLength next) h o = omega arith
-onward file at (read.Unknown next) h o = omega arith
-
-pub further : (file : List ℕ) (at : ℕ) (r : Read) → at < length file → read_at file at ≡ r → (at < after_read r (length file)) × (after_read r (length file) ≤ length file)
-further file at r h e = onward file at r h (forward_to file at r e)
-
-nothing_left : (file : List ℕ) (at : ℕ) → length file ≤ at → records_from file at ≡ []
-nothing_left file at h = records_at file at read.End (at_end file at h)
-
-pub no_lines : (b : Book) (place : ℕ) (file : List ℕ) (at : ℕ) → length file ≤ at → after_records b place (records_from file at) ≡ record { text = []; book = b }
+pub no_lines : (b : Book) (place : ℕ) (file : List ℕ) (at : ℕ) → read_at file at ≡ None → after_records b place (records_from file at) ≡ record { text = []; book = b }
 unfolding after_records
-no_lines b place file at h = ap (after_records b place) (nothing_left file at h)
+no_lines b place file at e = ap (after_records b place) (records_at file at None e)
 
-pub lines_next : (b : Book) (place : ℕ) (file : List ℕ) (at : ℕ) (r : Read) → read_at file at ≡ r
-    → after_records b place (records_from file at) ≡ before (played_record b r place) (after_records (played_record b r place).book (place + 1) (records_from file (after_read r (length file))))
+pub lines_next : (b : Book) (place : ℕ) (file : List ℕ) (at : ℕ) (r : Read) → read_at file at ≡ Some r
+    → after_records b place (records_from file at) ≡ before (played_record b r place) (after_records (played_record b r place).book (place + 1) (records_from file r.next))
 unfolding after_records
-lines_next b place file at read.End e = ap (after_records b place) (records_at file at read.End e) ∙ sym (no_lines b (place + 1) file (length file) (omega arith))
-lines_next b place file at read.CutOff e =
-    ap (after_records b place) (records_at file at read.CutOff e)
-    ∙ ap (λ (l : Lines). before (played_record b read.CutOff place) l) (sym (no_lines b (place + 1) file (length file) (omega arith)))
-lines_next b place file at (read.Known next c) e = ap (after_records b place) (records_at file at (read.Known next c) e)
-lines_next b place file at (read.WrongLength next) e = ap (after_records b place) (records_at file at (read.WrongLength next) e)
-lines_next b place file at (read.Unknown next) e = ap (after_records b place) (records_at file at (read.Unknown next) e)
+lines_next b place file at r e = ap (after_records b place) (records_at file at (Some r) e)
 
 abbrev pub lines_left : List ℕ → Book → ℕ → ℕ → List ℕ
 lines_left file b start place = (after_records b place (records_from file start)).text
@@ -106,10 +84,8 @@ pub played_within : (b : Book) (r : Read) (place : ℕ) {a : AfterRecord} → a 
 played_within b r place e w = subst (λ (a : AfterRecord). WithinLimits accounts a.book) (sym e) (kept b r place w)
 
 pub played_lines :
-    (file : List ℕ) (b : Book) (start place : ℕ) (r : Read) {a : AfterRecord} {next : ℕ} → read_at file start ≡ r → a ≡ played_record b r place → next ≡ after_read r (length file)
-    → text_of a.printed a.book.position a.book.cash ++ lines_left file a.book next (place + 1) ≡ lines_left file b start place
-played_lines file b start place r {a} {next} read_is played after =
-    let p = played_record b r place in
-    ap (λ (a : AfterRecord). text_of a.printed a.book.position a.book.cash ++ lines_left file a.book next (place + 1)) played
-    ∙ ap (λ (n : ℕ). text_of p.printed p.book.position p.book.cash ++ lines_left file p.book n (place + 1)) after
+    (file : List ℕ) (b : Book) (start place : ℕ) (r : Read) {a : AfterRecord} → read_at file start ≡ Some r → a ≡ played_record b r place
+    → text_of a.printed a.book.position a.book.cash ++ lines_left file a.book r.next (place + 1) ≡ lines_left file b start place
+played_lines file b start place r {a} read_is played =
+    ap (λ (a : AfterRecord). text_of a.printed a.book.position a.book.cash ++ lines_left file a.book r.next (place + 1)) played
     ∙ sym (ap (λ (l : Lines). l.text) (lines_next b place file start r read_is))

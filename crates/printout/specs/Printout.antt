@@ -7,7 +7,6 @@ use Rattle.lines.specs.Lines.{refused_line, day_line, account_lines}
 use Rattle.columns.specs.Columns.{accounts}
 use Rattle.ledger.specs.{declared.Book.Book, Step.opening}
 use Rattle.dayfile.specs.{declared.Read.Read, Calls.records_of}
-use Rattle.dayfile.specs.declared.Read.TheVariants as read
 use Rattle.playing.specs.{declared.Printed.Printed, Printed.AfterRecord, Printed.played_record}
 use Rattle.playing.specs.declared.Printed.TheVariants as printed
 
@@ -50,11 +49,3 @@ most_input = 65536
 
 abbrev pub printout : List ℕ → List ℕ
 printout input = printout_of_counted (take most_input input)
-
--- ---- what the private functions promise each other: where the record after this one starts
-abbrev pub after_read : Read → ℕ → ℕ
-after_read read.End end = end
-after_read read.CutOff end = end
-after_read (read.Known next c) end = next
-after_read (read.WrongLength next) end = next
-after_read (read.Unknown next) end = next

@@ -7,10 +7,10 @@ ghost use Rattle.lines.specs.Lines.{RoomForLines};
 ghost use Rattle.columns.specs.Columns.{accounts};
 ghost use Rattle.ledger.specs.Inner.{WithinLimits};
 ghost use Rattle.dayfile.specs.Calls.{records_of};
-ghost use Rattle.printout.specs.Printout.{most_input, text_of, after_read, after_records, printout_of, printout_of_counted, printout};
+ghost use Rattle.printout.specs.Printout.{most_input, text_of, after_records, printout_of, printout_of_counted, printout};
 
 use columns::ACCOUNTS;
-use dayfile::{Read, read_record};
+use dayfile::read_record;
 use ledger::Book;
 use lines::{put_accounts, put_day, put_refused};
 use playing::{Printed, play_record};
@@ -39,19 +39,6 @@ fn put_printed(
     }
 }
 
-// Where the record after this one starts: nothing of a file follows its end or a record that is cut off.
-fn after_read(read: Read, end: usize) -> usize
-    ensures { result ≡ after_read read end }
-{
-    match read {
-        Read::End => end,
-        Read::CutOff => end,
-        Read::Known(next, _) => next,
-        Read::WrongLength(next) => next,
-        Read::Unknown(next) => next,
-    }
-}
-
 // The lines of the records of a file, on a book within its limits. The columns stay in place from record to record.
 fn put_records(book: Book, file: &[u8], from: usize, out: &mut [u8]) -> usize
     requires { WithinLimits accounts book × (length file.now ≤ most_input) }
@@ -66,8 +53,7 @@ fn put_records(book: Book, file: &[u8], from: usize, out: &mut [u8]) -> usize
     let mut start: usize = 0;
     let mut place: u64 = 1;
     let mut end: usize = 0;
-    while start < file.len() {
-        let read = read_record(file, start);
+    while let Some(read) = read_record(file, start) {
         let played = play_record(
             figures,
             &mut opening,
@@ -82,7 +68,7 @@ fn put_records(book: Book, file: &[u8], from: usize, out: &mut [u8]) -> usize
         figures = after;
         let printed = played.printed;
         end = put_printed(printed, &position, &cash, end, from, out);
-        start = after_read(read, file.len());
+        start = read.next;
         place += 1;
     }
     end

@@ -9,7 +9,7 @@ ghost use Rattle.records.specs.Run.{run_over, Ready, Running};
 
 use bodies::{four_bytes, trade_at};
 use columns::ACCOUNTS;
-use dayfile::{HEAD, Read, is_record_at};
+use dayfile::{HEAD, is_record_at};
 use figures::Figures;
 use ledger::Book;
 use ledger::step::step_on;
@@ -165,25 +165,22 @@ fn any_record(
 {
     let mut after = from;
     match dayfile::read_record(file, from.at) {
-        Read::End => {
+        None => {
             after.at = file.len();
         }
-        Read::CutOff => {
-            after.at = file.len();
-        }
-        Read::Known(next, call) => {
-            let figures = from.figures;
-            let outcome = step_on(figures, opening, position, cost, volume, cash, call);
-            let stepped = outcome.figures;
-            after.figures = stepped;
-            after.accepted = count(from.accepted, outcome.code);
-            after.at = next;
-        }
-        Read::WrongLength(next) => {
-            after.at = next;
-        }
-        Read::Unknown(next) => {
-            after.at = next;
+        Some(read) => {
+            after.at = read.next;
+            match read.call {
+                Ok(Some(call)) => {
+                    let figures = from.figures;
+                    let outcome = step_on(figures, opening, position, cost, volume, cash, call);
+                    let stepped = outcome.figures;
+                    after.figures = stepped;
+                    after.accepted = count(from.accepted, outcome.code);
+                }
+                Ok(None) => {}
+                Err(_) => {}
+            }
         }
     }
     after

@@ -4,7 +4,8 @@ use Rattle.std.specs.Prelude.{ℕ, leb, Result, Ok, Err}
 use Rattle.prices.specs.Price.{is_present, none_or_price, none_or_ticked}
 use Rattle.refusals.specs.declared.Refusal.{Refusal}
 use Rattle.refusals.specs.declared.Refusal.TheVariants as refusal
-use Rattle.calls.specs.{declared.Call.Call, Calls.on_quote, Calls.on_trade, Calls.on_halt, Calls.on_resume, Calls.on_minute_end, Calls.on_fix, Calls.on_day_length, Length.is_length, Market.uncrossed, Trade.trade_outside}
+use Rattle.funding.specs.Market.{uncrossed}
+use Rattle.calls.specs.{declared.Call.Call, Calls.on_quote, Calls.on_trade, Calls.on_halt, Calls.on_resume, Calls.on_minute_end, Calls.on_fix, Calls.on_day_length, Length.is_length, Trade.trade_outside}
 
 -- the number of each refusal in document 01
 abbrev pub number : Refusal → ℕ

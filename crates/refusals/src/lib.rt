@@ -6,7 +6,8 @@ ghost use Rattle.refusals.specs.Refusals.{is_full, number_of, refusal_by};
 ghost use Rattle.refusals.specs.Refusals.{first_sentences as Refusals·first_sentences};
 ghost use Rattle.refusals.specs.Refusals.{number as Refusals·number};
 
-use calls::{Call, Market, Trade, is_length};
+use calls::{Call, Trade, is_length};
+use funding::market::Market;
 use prices::{none_or_price, none_or_ticked};
 
 pub const MOST_DAYS: u32 = 2_600;

@@ -13,7 +13,7 @@ use integers::Tie;
 const AMOUNT_SCALE: i64 = 100_000_000_000;
 
 // The kind 0 trades of a day's last minute: document 01's n, their contracts, and gross, quantity × price added up.
-#[derive(Clone, Copy)]
+#[derive(Clone, Copy, Default)]
 pub struct FinalMinute {
     pub contracts: u32,
     pub gross: u64,

@@ -15,7 +15,7 @@ use Rattle.refusals.specs.Refusals.{no_accounts}
 use Rattle.figures.specs.declared.Figures.{Figures}
 use Rattle.outcomes.specs.Outcome.{figures_refusal}
 use Rattle.calls.specs.declared.Call.TheVariants as call
-use Rattle.calls.specs.Market.{two_sided, is_valid}
+use Rattle.funding.specs.Market.{two_sided, is_valid}
 use Rattle.figures.proofs.Held.{held_figures}
 use Rattle.outcomes.proofs.Passed.{passed_figures}
 use Rattle.day.proofs.Held.{day_most}

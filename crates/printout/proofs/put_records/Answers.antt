@@ -1,8 +1,7 @@
 -- `printout::put_records` meets its contract.
-use mathlib.Core.Path.{◌≡◌, sym, ap}
-use Prim.Native.Nat.{◌<◌, ◌≤◌}
+use mathlib.Core.Path.{◌≡◌, sym, ◌∙◌, ap}
 use native.Mathlib.Omega.{arith}
-use lib.ListN as lists
+use Rattle.std.specs.Prelude.{Some}
 use borrow.Author.Rules.{rules}
 use Rattle.text.proofs.Placing.{then, in_words, nothing}
 use Rattle.ledger.specs.declared.Book.{Book}
@@ -10,52 +9,49 @@ use Rattle.ledger.specs.Inner.{book_of}
 use Rattle.dayfile.specs.Record.{read_at}
 use Rattle.playing.specs.Printed.{AfterRecord, played_of}
 use Rattle.printout.specs.Printout.{Lines}
-use Rattle.printout.proofs.Records.{text_short, further, no_lines, played_within, played_lines}
+use Rattle.dayfile.proofs.Forward.{further_to}
+use Rattle.printout.proofs.Records.{text_short, no_lines, played_within, played_lines}
 use Rattle.printout.proofs.put_records.Goals as goal
 
-pub loop-start-init : goal.loop-start-init
-loop-start-init c = (c.requires.0, search rules, search rules, search rules, λ e o p. p)
+pub loop-read-init : goal.loop-read-init
+loop-read-init c = (c.requires.0, search rules, search rules, search rules, λ e o p. p)
 
 pub play_record-played-requires : goal.play_record-played-requires
-play_record-played-requires c = c.loop-start.invariant.0
+play_record-played-requires c = c.loop-read.invariant.0
 
 pub put_printed-end-requires : goal.put_printed-end-requires
 put_printed-end-requires c =
-    let l = c.loop-start in
+    let l = c.loop-read in
     let b : Book = book_of l.figures l.opening l.position l.cost l.volume l.cash in
-    let w = played_within b c.read_record-read.result l.place c.play_record-played.ensures l.invariant.0 in
+    let w = played_within b c.in-Some.read l.place c.play_record-played.ensures l.invariant.0 in
     (w.shaped.position, w.shaped.cash, omega (arith, c.requires.1, l.invariant.1, l.invariant.3))
 
 pub overflow_add-place : goal.overflow_add-place
-overflow_add-place c = omega (arith, c.requires.1, c.loop-start.invariant.1, c.loop-start.invariant.2)
+overflow_add-place c = omega (arith, c.requires.1, c.loop-read.invariant.1, c.loop-read.invariant.2)
 
-pub loop-start-smaller : goal.loop-start-smaller
-loop-start-smaller c =
-    let file = c.args.file.now in
-    let l = c.loop-start in
-    let r = c.read_record-read.result in
-    omega (arith, c.after_read-start.ensures, further file l.start r (search rules) (sym c.read_record-read.ensures.record))
+pub loop-read-smaller : goal.loop-read-smaller
+loop-read-smaller c =
+    omega (arith, further_to c.args.file.now c.loop-read.start c.in-Some.read (sym c.read_record.ensures.record ∙ c.in-Some.is))
 
-pub loop-start-preserved : goal.loop-start-preserved
-loop-start-preserved c =
-    let l = c.loop-start in
+pub loop-read-preserved : goal.loop-read-preserved
+loop-read-preserved c =
+    let l = c.loop-read in
     let b : Book = book_of l.figures l.opening l.position l.cost l.volume l.cash in
     let file = c.args.file.now in
-    let r = c.read_record-read.result in
+    let r = c.in-Some.read in
     let n = c.play_record-played.new in
     let a : AfterRecord = played_of c.play_record-played.result n.opening n.position n.cost n.volume n.cash in
-    let read_is : read_at file l.start ≡ r = sym c.read_record-read.ensures.record in
+    let read_is : read_at file l.start ≡ Some r = sym c.read_record.ensures.record ∙ c.in-Some.is in
     let w = played_within b r l.place c.play_record-played.ensures l.invariant.0 in
-    let next = c.after_read-start.result in
-    let on : (l.start < next) × (next ≤ lists.length file) = omega (arith, c.after_read-start.ensures, further file l.start r (search rules) read_is) in
-    let lines = played_lines file b l.start l.place r read_is c.play_record-played.ensures c.after_read-start.ensures in
+    let on = further_to file l.start r read_is in
+    let lines = played_lines file b l.start l.place r read_is c.play_record-played.ensures in
     let short = text_short a.printed a.book.position a.book.cash in
     let p = c.put_printed-end.ensures in
-    (w, omega (arith, on), omega (arith, on, l.invariant.2), omega (arith, on, short, p.end_is, l.invariant.3), λ e o q. l.invariant.4 e o (in_words lines (then p q)))
+    (w, on.1, omega (arith, on, l.invariant.2), omega (arith, on, short, p.end_is, l.invariant.3), λ e o q. l.invariant.4 e o (in_words lines (then p q)))
 
 pub returns : goal.returns
 returns c =
-    let l = c.loop-start in
+    let l = c.loop-read in
     let b : Book = book_of l.figures l.opening l.position l.cost l.volume l.cash in
     let none = ap (λ (k : Lines). k.text) (no_lines b l.place c.args.file.now l.start (search rules)) in
     l.invariant.4 l.end l.out (in_words (sym none) (nothing l.end c.args.from l.out))

@@ -4,7 +4,7 @@ use mathlib.Core.Bool.{true}
 use Prim.Native.Nat.{◌+◌, ◌≤◌}
 use native.Mathlib.Omega.{arith}
 use lib.ListN as lists
-use Rattle.dayfile.proofs.Calls.{calls_at_known}
+use Rattle.dayfile.proofs.Calls.{calls_at}
 use Rattle.dayfile.proofs.Reading.{record_at, known_at}
 use Rattle.tags.specs.declared.Tag.TheVariants as tag
 use Rattle.bodies.specs.Body.{four_bytes}
@@ -40,5 +40,5 @@ loop-body-preserved c =
     let answered : answer_of c.minute_end-outcome.result b.opening b.position b.cost b.volume b.cash ≡ step accounts b k =
     on_figures accounts b m refl refl c.minute_end-outcome.ensures ∙ step_within accounts b m c.loop-body.invariant.ready.within
     ∙ ap (λ u. step accounts b (call.MinuteEnd u)) c.four_bytes.ensures in
-    let calls = calls_at_known file at k (at + 3 + 4) (known_at file at tag.MinuteEnd found) in
+    let calls = calls_at file at _ (known_at file at tag.MinuteEnd found) in
     rw c.body_length.ensures (stepped c.loop-body.invariant k (at + 3 + 4) (omega arith) inside calls answered c.count-accepted.ensures)

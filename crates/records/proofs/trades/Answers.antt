@@ -7,7 +7,7 @@ use lib.ListN as lists
 use mir.Syntax.{w8}
 use mir.Val.{Fits}
 use borrow.Author.Rules.{rules}
-use Rattle.dayfile.proofs.Calls.{calls_at_known}
+use Rattle.dayfile.proofs.Calls.{calls_at}
 use Rattle.dayfile.proofs.Reading.{record_at, known_at}
 use Rattle.tags.specs.declared.Tag.TheVariants as tag
 use Rattle.bodies.specs.Body.{trade_at}
@@ -46,5 +46,5 @@ loop-body-preserved c =
     trade-answered accounts b t c.trade_on-outcome.ensures
     ∙ step_within accounts b (call.Trade t) l.invariant.ready.within
     ∙ ap (λ (t : Trade). step accounts b (call.Trade t)) c.trade_at.ensures in
-    let calls = calls_at_known file at k (at + 3 + 11) (known_at file at tag.Trade found) in
+    let calls = calls_at file at _ (known_at file at tag.Trade found) in
     rw c.body_length.ensures (stepped l.invariant k (at + 3 + 11) (omega arith) inside calls answered c.count-accepted.ensures)

@@ -2,7 +2,7 @@
 use Rattle.std.specs.Prelude.{◌&&◌, Bool, cond, not, ◌||◌, ℕ, eqb, ltb}
 use Rattle.prices.specs.Price.{is_present, none_or_ticked}
 use Rattle.funding.specs.{declared.Terms.Terms, Minute.within_spread}
-use Rattle.calls.specs.declared.Market.{Market}
+use Rattle.funding.specs.declared.market.Market.{Market}
 
 abbrev pub no_market : Market
 no_market = record { bid = 0; offer = 0 }

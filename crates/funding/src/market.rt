@@ -1,0 +1,86 @@
+// A market: its limits, and the minutes that end with it.
+ghost use Rattle.std.specs.Prelude.{◌≡◌};
+ghost use Rattle.funding.specs.Minute.{within_spread, futures_price};
+ghost use Rattle.funding.specs.Market.{two_sided, uncrossed, as_minute, is_valid, market_holds, minute_market_holds};
+
+use crate::Terms;
+use prices::none_or_ticked;
+
+// A market, or one side of it: 0 where a side doesn't stand.
+#[derive(Clone, Copy, Default)]
+pub struct Market {
+    pub bid: u32,
+    pub offer: u32,
+}
+
+impl Market {
+    fn is_two_sided(self) -> bool
+        ensures { result ≡ two_sided self }
+    {
+        (self.bid != 0) & (self.offer != 0)
+    }
+
+    pub fn is_uncrossed(self) -> bool
+        ensures { result ≡ uncrossed self }
+    {
+        !((self.bid != 0) & (self.offer != 0)) | (self.bid < self.offer)
+    }
+
+    // This market where both its sides stand, else the other.
+    pub fn as_minute(self, otherwise: Market) -> Market
+        ensures { result ≡ as_minute self otherwise }
+    {
+        if self.is_two_sided() { self } else { otherwise }
+    }
+
+    // The spread test. Sides that cross, which any two numbers may, differ by nothing.
+    pub fn is_within_spread(self, terms: Terms) -> bool
+        ensures { result ≡ within_spread terms self.bid self.offer }
+    {
+        if self.offer <= self.bid {
+            return true;
+        }
+        let b = self.bid as u64;
+        let a = self.offer as u64;
+        20_000 * (a - b) <= (terms.spread as u64) * (a + b)
+    }
+
+    // The futures price F of a minute that ends with this market, after this last trade.
+    pub fn futures_price(self, last: u32) -> u32
+        ensures { result ≡ futures_price self.bid self.offer last }
+    {
+        if (last != 0) & (self.bid <= last) & (last <= self.offer) {
+            last
+        } else {
+            ((self.bid as u64 + self.offer as u64) / 2) as u32
+        }
+    }
+
+    // Whether the minute that ends with this market and this index is valid.
+    pub fn is_valid(self, halted: bool, index: u32, terms: Terms) -> bool
+        ensures { result ≡ is_valid terms halted self index }
+    {
+        if halted {
+            return false;
+        }
+        if !self.is_two_sided() {
+            return false;
+        }
+        if index == 0 {
+            return false;
+        }
+        self.is_within_spread(terms)
+    }
+
+    pub fn holds(self) -> bool
+        ensures { result ≡ market_holds self }
+    {
+        none_or_ticked(self.bid) & none_or_ticked(self.offer) & self.is_uncrossed()
+    }
+
+    pub fn holds_minute(self) -> bool
+        ensures { result ≡ minute_market_holds self }
+    {
+        self.holds() & (self.is_two_sided() | ((self.bid == 0) & (self.offer == 0)))
+    }
+}
