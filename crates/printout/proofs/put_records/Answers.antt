@@ -4,27 +4,27 @@ use Prim.Native.Nat.{◌<◌, ◌≤◌}
 use native.Mathlib.Omega.{arith}
 use lib.ListN as lists
 use borrow.Author.Rules.{rules}
-use Rattle.text.proofs.Placing.{then, in_words, nothing}
+use Rattle.text.proofs.Placing.{puts_then, puts_in_words, puts_nothing}
 use Rattle.ledger.specs.declared.Book.{Book}
 use Rattle.ledger.specs.Inner.{book_of}
 use Rattle.dayfile.specs.Record.{read_at}
 use Rattle.playing.specs.Printed.{AfterRecord, played_of}
 use Rattle.printout.specs.Printout.{Lines}
-use Rattle.printout.proofs.Records.{text_short, further, no_lines, played_within, played_lines}
+use Rattle.printout.proofs.Records.{further, no_lines, played_within, played_lines}
 use Rattle.printout.proofs.put_records.Goals as goal
 
 pub loop-start-init : goal.loop-start-init
-loop-start-init c = (c.requires.0, search rules, search rules, search rules, λ e o p. p)
+loop-start-init c = (c.requires.0, search rules, search rules, λ last p. p)
 
 pub play_record-played-requires : goal.play_record-played-requires
 play_record-played-requires c = c.loop-start.invariant.0
 
-pub put_printed-end-requires : goal.put_printed-end-requires
-put_printed-end-requires c =
+pub put_printed-requires : goal.put_printed-requires
+put_printed-requires c =
     let l = c.loop-start in
     let b : Book = book_of l.figures l.opening l.position l.cost l.volume l.cash in
     let w = played_within b c.read_record-read.result l.place c.play_record-played.ensures l.invariant.0 in
-    (w.shaped.position, w.shaped.cash, omega (arith, c.requires.1, l.invariant.1, l.invariant.3))
+    (w.shaped.position, w.shaped.cash)
 
 pub overflow_add-place : goal.overflow_add-place
 overflow_add-place c = omega (arith, c.requires.1, c.loop-start.invariant.1, c.loop-start.invariant.2)
@@ -49,13 +49,11 @@ loop-start-preserved c =
     let next = c.after_read-start.result in
     let on : (l.start < next) × (next ≤ lists.length file) = omega (arith, c.after_read-start.ensures, further file l.start r (search rules) read_is) in
     let lines = played_lines file b l.start l.place r read_is c.play_record-played.ensures c.after_read-start.ensures in
-    let short = text_short a.printed a.book.position a.book.cash in
-    let p = c.put_printed-end.ensures in
-    (w, omega (arith, on), omega (arith, on, l.invariant.2), omega (arith, on, short, p.end_is, l.invariant.3), λ e o q. l.invariant.4 e o (in_words lines (then p q)))
+    (w, omega (arith, on), omega (arith, on, l.invariant.2), λ last rest. l.invariant.3 last (puts_in_words lines (puts_then c.put_printed.ensures rest)))
 
 pub returns : goal.returns
 returns c =
     let l = c.loop-start in
     let b : Book = book_of l.figures l.opening l.position l.cost l.volume l.cash in
     let none = ap (λ (k : Lines). k.text) (no_lines b l.place c.args.file.now l.start (search rules)) in
-    l.invariant.4 l.end l.out (in_words (sym none) (nothing l.end c.args.from l.out))
+    l.invariant.3 l.window (puts_in_words (sym none) (puts_nothing l.window))
