@@ -1,8 +1,8 @@
 // Text put piece by piece into a window: a buffer that lies over a longer text from an offset on.
 #![tactic(auto)]
 
-ghost use Rattle.std.specs.Prelude.{[], ◌∷◌, ◌++◌};
-ghost use Rattle.text.specs.Text.{Puts};
+ghost use Rattle.std.specs.Prelude.{◌≡◌, ◌++◌};
+ghost use Rattle.text.specs.Text.{over, Puts};
 
 use itoa::{Buffer, Integer};
 
@@ -18,26 +18,23 @@ pub struct Window<'a> {
     pub at: usize,
 }
 
-impl<'a> Window<'a> {
-    #[tactic(auto, unfolding(crate::specs::Text::placed))]
-    fn put_byte(&mut self, byte: u8)
-        ensures { Puts self.old (byte ∷ []) self.new }
-    {
-        if let Some(i) = self.at.checked_sub(self.from)
-            && i < self.out.len()
-        {
-            self.out[i] = byte;
-        }
-        self.at = self.at.saturating_add(1);
-    }
+// Copies as much of a text as fits over the front of a buffer.
+fn copy_over(text: &[u8], out: &mut [u8])
+    ensures { out.new ≡ over text.now out.old }
+{
+    let count = text.len().min(out.len());
+    out[..count].copy_from_slice(&text[..count]);
+}
 
+impl<'a> Window<'a> {
     // Puts bytes of the text.
     pub fn put(&mut self, bytes: &[u8])
         ensures { Puts self.old bytes.now self.new }
     {
-        for byte in bytes {
-            self.put_byte(*byte);
-        }
+        let passed = self.from.saturating_sub(self.at).min(bytes.len());
+        let start = self.at.saturating_sub(self.from).min(self.out.len());
+        copy_over(&bytes[passed..], &mut self.out[start..]);
+        self.at = self.at.saturating_add(bytes.len());
     }
 
     // Puts a label and a number after it, in decimal.
