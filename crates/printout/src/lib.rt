@@ -25,7 +25,6 @@ fn put_printed(
     position: &[i64; ACCOUNTS],
     cash: &[i64; ACCOUNTS],
 )
-    requires { (length position.now ≡ accounts) × (length cash.now ≡ accounts) }
     ensures { Puts window.old (text_of printed position.now cash.now) window.new }
 {
     match printed {

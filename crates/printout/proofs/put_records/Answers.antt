@@ -19,13 +19,6 @@ loop-start-init c = (c.requires.0, search rules, search rules, λ last p. p)
 pub play_record-played-requires : goal.play_record-played-requires
 play_record-played-requires c = c.loop-start.invariant.0
 
-pub put_printed-requires : goal.put_printed-requires
-put_printed-requires c =
-    let l = c.loop-start in
-    let b : Book = book_of l.figures l.opening l.position l.cost l.volume l.cash in
-    let w = played_within b c.read_record-read.result l.place c.play_record-played.ensures l.invariant.0 in
-    (w.shaped.position, w.shaped.cash)
-
 pub overflow_add-place : goal.overflow_add-place
 overflow_add-place c = omega (arith, c.requires.1, c.loop-start.invariant.1, c.loop-start.invariant.2)
 
