@@ -4,6 +4,8 @@
 --     puts_then, puts_in_words, puts_nothing      the same of texts put into a window
 --     length_placed, kept           the buffer keeps its length
 --     placed_over                   what was put from the text's start on is the part of it that the buffer lies over
+--     placed_part                   what is put from a place on, by what stands before that place and what follows it
+--     over_front                    as much of a text as fits, by its length
 -- Assumes nothing.
 use mathlib.Core.Path.{◌≡◌, refl, sym, ◌∙◌, ap, subst}
 use mathlib.Core.Logic.{inl, inr}

@@ -6,8 +6,8 @@ ghost use Rattle.text.specs.Text.{over, Puts};
 
 use itoa::{Buffer, Integer};
 
-// What is put goes on at a place of the text, and the bytes at places outside the buffer are passed over. `write!` isn't used: the
-// contract of `fmt` leaves open that it answers an error at a writer that never fails, and the proof that all is put didn't close.
+// What is put goes on at a place of the text, and the bytes at places outside the buffer are passed over.
+// No `write!`: tried, and no clause of `fmt` says that a writer that never fails gets an `Ok`, so the proof didn't close.
 #[derive(Drop)]
 pub struct Window<'a> {
     // the buffer
@@ -26,7 +26,7 @@ fn copy_over(text: &[u8], out: &mut [u8])
     out[..count].copy_from_slice(&text[..count]);
 }
 
-impl<'a> Window<'a> {
+impl Window<'_> {
     // Puts bytes of the text.
     pub fn put(&mut self, bytes: &[u8])
         ensures { Puts self.old bytes.now self.new }
