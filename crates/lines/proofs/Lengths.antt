@@ -14,12 +14,12 @@ use Rattle.columns.specs.Columns.{entry}
 use Rattle.lines.specs.Lines.{refused_line, day_line, account_line, is_printed, printed_account, account_lines}
 
 abbrev pub longest_account : ℕ
-longest_account = 212
+longest_account = 211
 
 pub refused_short : (number place : ℕ) → length (refused_line number place) ≤ 145
 refused_short number place = simp length-append (omega (arith, decimal_short number, decimal_short place))
 
-pub day_short : (day : ℕ) (f : Fixing) → length (day_line day f) ≤ 356
+pub day_short : (day : ℕ) (f : Fixing) → length (day_line day f) ≤ 355
 day_short day f = simp length-append (omega (arith, decimal_short day, decimal_short f.price, signed_short f.rate, signed_short f.amount, decimal_short f.valid))
 
 line_short : (account : ℕ) (position cash : ℤ) → length (account_line account position cash) ≤ longest_account

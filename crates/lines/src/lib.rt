@@ -1,7 +1,7 @@
 // The lines of the printout, put into a window on it.
 #![tactic(auto)]
 
-ghost use Rattle.std.specs.Prelude.{◌≡◌, length};
+ghost use Rattle.std.specs.Prelude.{◌≡◌};
 ghost use Rattle.text.specs.Text.{Puts};
 ghost use Rattle.columns.specs.Columns.{accounts};
 ghost use Rattle.lines.specs.Lines.{refused_line, day_line, account_line, is_printed, printed_account, account_lines};
@@ -56,7 +56,6 @@ fn put_nonzero(window: &mut Window, account: usize, position: i64, cash: i64)
 
 // A line for each account that is printed.
 pub fn put_accounts(window: &mut Window, position: &[i64; ACCOUNTS], cash: &[i64; ACCOUNTS])
-    requires { (length position.now ≡ accounts) × (length cash.now ≡ accounts) }
     ensures { Puts window.old (account_lines accounts position.now cash.now) window.new }
 {
     for (account, (position, cash)) in position.iter().zip(cash).enumerate() {

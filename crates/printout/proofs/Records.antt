@@ -1,17 +1,25 @@
 -- The lines of a file's records, one record after another.
 --     text_short           how long the lines of one record are
 --     records_short        and those of all records of a file
+--     printout_short       and the whole printout
 --     kept                 a record leaves a book within its limits
 --     lines_left           the lines from a place on
 --     played_within, played_lines      a record that was played leaves a book within its limits, and its lines stand before those that follow
 --     lines_next, no_lines      the lines from a place on: those of the record there before those that follow, and none where nothing is left
 -- Assumes nothing.
 use mathlib.Core.Path.{◌≡◌, sym, ◌∙◌, ap, subst}
+use mathlib.Core.Bool.{cond}
 use mathlib.Core.List.{List, [], ◌∷◌, ◌++◌}
 use Prim.Native.Nat.{ℕ, zero, suc, ◌+◌, ◌*◌, ◌≤◌}
 use native.Mathlib.Omega.{arith}
 use lib.IntN.{ℤ}
-use lib.ListN.{length, length-append}
+use lib.Dec.{eqb}
+use lib.ListN.{length, take, drop, get_or, length-append, length-drop}
+use Rattle.std.proofs.lemmas.List.{length-take}
+use Rattle.text.specs.Text.{Room}
+use Rattle.integers.proofs.Tests.{by_test}
+use Rattle.lines.specs.Lines.{refused_line}
+use Rattle.ledger.specs.Step.{opening}
 use Rattle.lines.proofs.Lengths.{longest_account, refused_short, day_short, accounts_short}
 use Rattle.columns.specs.Columns.{accounts}
 use Rattle.ledger.specs.declared.Book.{Book}
@@ -27,7 +35,7 @@ use Rattle.dayfile.proofs.Calls.{records_at}
 use Rattle.playing.specs.declared.Printed.{Printed}
 use Rattle.playing.specs.declared.Printed.TheVariants as printed
 use Rattle.playing.specs.Printed.{AfterRecord, played_call, played_record}
-use Rattle.printout.specs.Printout.{Lines, text_of, before, after_records}
+use Rattle.printout.specs.Printout.{Lines, text_of, before, after_records, lines_of, printout_of, most_input, printout}
 
 abbrev pub longest_text : ℕ
 longest_text = accounts * longest_account
@@ -58,6 +66,17 @@ lines_short b place (r ∷ rs) =
 pub records_short : (b : Book) (file : List ℕ) → length (after_records b 1 (records_of file)).text ≤ length file * longest_text
 unfolding records_from
 records_short b file = omega (arith, lines_short b 1 (records_of file), few (length file) file 0)
+
+-- the whole printout has its places within 64 bits
+printed_short : (size : ℕ) (file : List ℕ) → length file ≤ most_input → Room 0 (printout_of size file)
+printed_short size file h =
+    let o = opening accounts size in
+    let short : length (cond (eqb o.code 0) (lines_of size file).text (refused_line o.code 0)) ≤ most_input * longest_text =
+    by_test (eqb o.code 0) (λ (l : List ℕ). length l ≤ most_input * longest_text) (λ _. omega (arith, h, records_short o.book file)) (λ _. omega (arith, refused_short o.code 0)) in
+    rw (length-append) (omega (arith, short))
+
+pub printout_short : (input : List ℕ) → Room 0 (printout input)
+printout_short input = printed_short (get_or (take most_input input) 0 0) (drop 1 (take most_input input)) (omega (arith, length-drop 1 (take most_input input), length-take most_input input))
 
 -- a record leaves a book within its limits
 pub kept : (b : Book) (r : Read) (place : ℕ) → WithinLimits accounts b → WithinLimits accounts (played_record b r place).book

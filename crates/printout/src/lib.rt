@@ -2,8 +2,7 @@
 #![tactic(auto)]
 
 ghost use Rattle.std.specs.Prelude.{◌≡◌, ◌≤◌, length, drop};
-ghost use Rattle.text.specs.Text.{Put, over};
-ghost use Rattle.lines.specs.Lines.{RoomForLines};
+ghost use Rattle.text.specs.Text.{Puts, over};
 ghost use Rattle.columns.specs.Columns.{accounts};
 ghost use Rattle.ledger.specs.Inner.{WithinLimits};
 ghost use Rattle.dayfile.specs.Calls.{records_of};
@@ -14,35 +13,32 @@ use dayfile::read_record;
 use ledger::Book;
 use lines::{put_accounts, put_day, put_refused};
 use playing::{Printed, play_record};
-use text::put;
+use text::Window;
 
 // The bytes of an input that count, its size byte included.
 const MOST_INPUT: usize = 65_536;
 
 // The lines of one record, with the columns after it.
 fn put_printed(
+    window: &mut Window,
     printed: Printed,
     position: &[i64; ACCOUNTS],
     cash: &[i64; ACCOUNTS],
-    at: usize,
-    from: usize,
-    out: &mut [u8],
-) -> usize
-    requires { (length position.now ≡ accounts) × (length cash.now ≡ accounts) × RoomForLines at }
-    ensures { Put at (text_of printed position.now cash.now) from out.old result out.new }
+)
+    ensures { Puts window.old (text_of printed position.now cash.now) window.new }
 {
     match printed {
-        Printed::Nothing => at,
-        Printed::Refused { number, place } => put_refused(number, place, at, from, out),
-        Printed::Day { day, fixing } => put_day(day, fixing, at, from, out),
-        Printed::Accounts => put_accounts(position, cash, at, from, out),
+        Printed::Nothing => {}
+        Printed::Refused { number, place } => put_refused(window, number, place),
+        Printed::Day { day, fixing } => put_day(window, day, fixing),
+        Printed::Accounts => put_accounts(window, position, cash),
     }
 }
 
 // The lines of the records of a file, on a book within its limits. The columns stay in place from record to record.
-fn put_records(book: Book, file: &[u8], from: usize, out: &mut [u8]) -> usize
+fn put_records(window: &mut Window, book: Book, file: &[u8])
     requires { WithinLimits accounts book × (length file.now ≤ most_input) }
-    ensures { Put 0 (after_records book 1 (records_of file.now)).text from out.old result out.new }
+    ensures { Puts window.old (after_records book 1 (records_of file.now)).text window.new }
 {
     let mut figures = book.figures;
     let mut opening = book.opening;
@@ -52,7 +48,6 @@ fn put_records(book: Book, file: &[u8], from: usize, out: &mut [u8]) -> usize
     let mut cash = book.cash;
     let mut start: usize = 0;
     let mut place: u64 = 1;
-    let mut end: usize = 0;
     while let Some(read) = read_record(file, start) {
         let played = play_record(
             figures,
@@ -67,37 +62,35 @@ fn put_records(book: Book, file: &[u8], from: usize, out: &mut [u8]) -> usize
         let after = played.figures;
         figures = after;
         let printed = played.printed;
-        end = put_printed(printed, &position, &cash, end, from, out);
+        put_printed(window, printed, &position, &cash);
         start = read.next;
         place += 1;
     }
-    end
 }
 
 // The printout of a size and the records of a file.
-fn put_printout(size: u8, file: &[u8], from: usize, out: &mut [u8]) -> usize
+fn put_printout(window: &mut Window, size: u8, file: &[u8])
     requires { length file.now ≤ most_input }
-    ensures { Put 0 (printout_of size file.now) from out.old result out.new }
+    ensures { Puts window.old (printout_of size file.now) window.new }
 {
     let opened = Book::opening(size as u32);
     if opened.code != 0 {
-        let end = put_refused(opened.code, 0, 0, from, out);
-        return put(b"end\n", end, from, out);
+        put_refused(window, opened.code, 0);
+    } else {
+        put_records(window, opened.book, file);
     }
-    let book = opened.book;
-    let end = put_records(book, file, from, out);
-    put(b"end\n", end, from, out)
+    window.put(b"end\n");
 }
 
 // The printout of an input all of which counts. A missing size counts as 0.
-fn put_counted(input: &[u8], from: usize, out: &mut [u8]) -> usize
+fn put_counted(window: &mut Window, input: &[u8])
     requires { length input.now ≤ most_input }
-    ensures { Put 0 (printout_of_counted input.now) from out.old result out.new }
+    ensures { Puts window.old (printout_of_counted input.now) window.new }
 {
-    if input.len() == 0 {
-        return put_printout(0, input, from, out);
+    match input.split_first() {
+        Some((size, file)) => put_printout(window, *size, file),
+        None => put_printout(window, 0, input),
     }
-    put_printout(input[0], &input[1..], from, out)
 }
 
 // Writes the part of an input's printout from an offset on that fits the buffer, leaves the rest of the buffer as it is, and
@@ -106,8 +99,8 @@ pub fn write(input: &[u8], from: usize, out: &mut [u8]) -> usize
     ensures length { result ≡ length (printout input.now) }
     ensures text { out.new ≡ over (drop from (printout input.now)) out.old }
 {
-    if MOST_INPUT < input.len() {
-        return put_counted(&input[..MOST_INPUT], from, out);
-    }
-    put_counted(input, from, out)
+    let counted = MOST_INPUT.min(input.len());
+    let mut window = Window { out, from, at: 0 };
+    put_counted(&mut window, &input[..counted]);
+    window.at
 }

@@ -4,14 +4,19 @@
 --     puts_then, puts_in_words, puts_nothing      the same of texts put into a window
 --     length_placed, kept           the buffer keeps its length
 --     placed_over                   what was put from the text's start on is the part of it that the buffer lies over
+--     placed_part                   what is put from a place on, by what stands before that place and what follows it
+--     over_front                    as much of a text as fits, by its length
 -- Assumes nothing.
 use mathlib.Core.Path.{◌≡◌, refl, sym, ◌∙◌, ap, subst}
+use mathlib.Core.Logic.{inl, inr}
 use mathlib.Core.List.{List, [], ◌∷◌, ◌++◌}
 use mathlib.Core.Bool.{Bool, true, false, cond}
-use Prim.Native.Nat.{ℕ, zero, suc, ◌+◌, ◌-◌}
+use Prim.Native.Nat.{ℕ, zero, suc, ◌+◌, ◌-◌, min}
 use native.Mathlib.Omega.{arith}
 use lib.Dec.{leb}
-use lib.ListN.{length, set, drop, length-set, length-append}
+use lib.ListN.{length, set, take, drop, length-set, length-append}
+use Rattle.std.proofs.lemmas.List.{take_min, drop_min}
+use Rattle.std.proofs.lemmas.Bool.{cases_lt}
 use Rattle.integers.proofs.Tests.{tests}
 use Rattle.text.specs.declared.Window.{Window}
 use Rattle.text.specs.Text.{over, placed_byte, placed, Room, Put, Puts}
@@ -115,3 +120,31 @@ placed_before (suc skip) at (b ∷ text) from out e =
 
 pub placed_over : (text : List ℕ) (from : ℕ) (out : List ℕ) → placed 0 text from out ≡ over (drop from text) out
 placed_over text from out = placed_before from 0 text from out (omega arith)
+
+over_nothing : (text : List ℕ) → over text [] ≡ []
+over_nothing [] = refl
+over_nothing (b ∷ text) = refl
+
+over_from_rest : (i : ℕ) (text out : List ℕ) → over_from i text out ≡ take i out ++ over text (drop i out)
+over_from_rest zero text out = refl
+over_from_rest (suc i) text [] = sym (over_nothing text)
+over_from_rest (suc i) text (o ∷ out) = ap (λ (l : List ℕ). o ∷ l) (over_from_rest i text out)
+
+-- what stands before the place, and the text over what follows it
+pub placed_part : (at from : ℕ) (text out : List ℕ) (passed start : ℕ) → passed ≡ min (from - at) (length text) → start ≡ min (at - from) (length out) → placed at text from out ≡ take start out ++ over (drop passed text) (drop start out)
+placed_part at from text out passed start p s =
+    elim (cases_lt at from) [
+      | inl h ↦
+          let none : start ≡ 0 = omega arith in
+          rw (none, p, drop_min) (placed_before (from - at) at text from out (omega arith))
+      | inr h ↦
+          let none : passed ≡ 0 = omega arith in
+          rw (none, s, drop_min, take_min) (placed_within (at - from) at text from out (omega arith) ∙ over_from_rest (at - from) text out)
+    ]
+
+-- as much of a text as fits, before the rest of the buffer
+pub over_front : (n : ℕ) (text out : List ℕ) → n ≡ min (length text) (length out) → take n text ++ drop n out ≡ over text out
+over_front n [] out e = let none : n ≡ 0 = omega arith in rw none refl
+over_front n (b ∷ text) [] e = let none : n ≡ 0 = omega arith in rw none refl
+over_front zero (b ∷ text) (o ∷ out) e = absurd (omega arith)
+over_front (suc n) (b ∷ text) (o ∷ out) e = ap (λ (l : List ℕ). b ∷ l) (over_front n text out (omega arith))

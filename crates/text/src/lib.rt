@@ -1,13 +1,13 @@
 // Text put piece by piece into a window: a buffer that lies over a longer text from an offset on.
 #![tactic(auto)]
 
-ghost use Rattle.std.specs.Prelude.{[], ◌∷◌, ◌++◌};
-ghost use Rattle.text.specs.Text.{Puts};
+ghost use Rattle.std.specs.Prelude.{◌≡◌, ◌++◌};
+ghost use Rattle.text.specs.Text.{over, Puts};
 
 use itoa::{Buffer, Integer};
 
-// What is put goes on at a place of the text, and the bytes at places outside the buffer are passed over. `write!` isn't used: the
-// contract of `fmt` leaves open that it answers an error at a writer that never fails, and the proof that all is put didn't close.
+// What is put goes on at a place of the text, and the bytes at places outside the buffer are passed over.
+// No `write!`: tried, and no clause of `fmt` says that a writer that never fails gets an `Ok`, so the proof didn't close.
 #[derive(Drop)]
 pub struct Window<'a> {
     // the buffer
@@ -18,26 +18,23 @@ pub struct Window<'a> {
     pub at: usize,
 }
 
-impl<'a> Window<'a> {
-    #[tactic(auto, unfolding(crate::specs::Text::placed))]
-    fn put_byte(&mut self, byte: u8)
-        ensures { Puts self.old (byte ∷ []) self.new }
-    {
-        if let Some(i) = self.at.checked_sub(self.from)
-            && i < self.out.len()
-        {
-            self.out[i] = byte;
-        }
-        self.at = self.at.saturating_add(1);
-    }
+// Copies as much of a text as fits over the front of a buffer.
+fn copy_over(text: &[u8], out: &mut [u8])
+    ensures { out.new ≡ over text.now out.old }
+{
+    let count = text.len().min(out.len());
+    out[..count].copy_from_slice(&text[..count]);
+}
 
+impl Window<'_> {
     // Puts bytes of the text.
     pub fn put(&mut self, bytes: &[u8])
         ensures { Puts self.old bytes.now self.new }
     {
-        for byte in bytes {
-            self.put_byte(*byte);
-        }
+        let passed = self.from.saturating_sub(self.at).min(bytes.len());
+        let start = self.at.saturating_sub(self.from).min(self.out.len());
+        copy_over(&bytes[passed..], &mut self.out[start..]);
+        self.at = self.at.saturating_add(bytes.len());
     }
 
     // Puts a label and a number after it, in decimal.

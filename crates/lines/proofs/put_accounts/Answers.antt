@@ -54,5 +54,5 @@ returns c =
     let q = c.args.cash.now in
     let road = YieldsList-from_enumerate (YieldsList-from_zip (YieldsList-from_slice p cc) (YieldsList-from_slice q cc)) cc in
     let t = YieldsList-end road c.loop-account.yielded c.loop-account.account-iterator c.loop-account.yielded_by _ c.next.new.self c.in-None.is c.next.ensures.steps in
-    let all : length c.loop-account.yielded ≡ accounts = omega (arith, t.1, length-enumerate_from 0 (zip p q), length-zip p q, c.requires) in
+    let all : length c.loop-account.yielded ≡ accounts = omega (arith, t.1, length-enumerate_from 0 (zip p q), length-zip p q) in
     subst (λ (n : ℕ). Puts c.args.window.now (account_lines n p q) c.loop-account.window) all c.loop-account.invariant

@@ -1,14 +1,12 @@
 -- `printout::put_printout` meets its contract: a refused size, or the lines of the records, and the last line.
-use mathlib.Core.Path.{◌≡◌, sym, ◌∙◌, ap}
+use Rattle.std.proofs.Common.{◌≡◌, ℕ, List, sym, ◌∙◌, ap, subst}
 use mathlib.Core.Bool.{cond}
-use mathlib.Core.List.{List}
-use Prim.Native.Nat.{ℕ}
-use native.Mathlib.Omega.{arith}
 use lib.Dec.{eqb}
 use borrow.Author.Tests.{eq-eqb, ne_eqb}
-use Rattle.text.proofs.Placing.{then, in_words}
+use Rattle.text.specs.declared.Window.{Window}
+use Rattle.text.specs.Text.{Puts}
+use Rattle.text.proofs.Placing.{puts_then, puts_in_words}
 use Rattle.lines.specs.Lines.{refused_line}
-use Rattle.lines.proofs.Lengths.{refused_short}
 use Rattle.columns.specs.Columns.{accounts}
 use Rattle.ledger.specs.declared.Answer.{Answer}
 use Rattle.ledger.specs.Step.{opening}
@@ -16,8 +14,8 @@ use Rattle.ledger.specs.Inner.{WithinLimits}
 use Rattle.ledger.proofs.Keeping.{opened_within}
 use Rattle.dayfile.specs.Calls.{records_of}
 use Rattle.printout.specs.Printout.{after_records}
-use Rattle.printout.proofs.Records.{records_short}
 use Rattle.printout.proofs.put_printout.Goals as goal
+use Rattle.printout.proofs.put_printout.Goals.{then-opened-ne0, else-opened-ne0}
 
 -- all but the last line
 abbrev body : Answer → List ℕ → List ℕ
@@ -32,21 +30,16 @@ taken a o file e h = rw (← e, eq-eqb a.code 0 h)
 within : (size : ℕ) (a : Answer) → a ≡ opening accounts size → a.code ≡ 0 → WithinLimits accounts a.book
 within size a e h = rw e (opened_within accounts size (ap (λ (x : Answer). x.code) (sym e) ∙ h))
 
-pub put-requires : goal.put-requires
-put-requires c = omega (arith, c.put_refused-end.ensures.end_is, refused_short c.opening-opened.result.code 0)
-
-pub returns-then-opened-ne0 : goal.returns-then-opened-ne0
-returns-then-opened-ne0 c =
-    let o = c.opening-opened in
-    then (in_words (refused o.result (opening accounts c.args.size) c.args.file.now o.ensures c.if-opened-ne0.true) c.put_refused-end.ensures) c.put.ensures
-
-pub put_records-end-requires : goal.put_records-end-requires
-put_records-end-requires c = (within c.args.size c.opening-opened.result c.opening-opened.ensures c.if-opened-ne0.false, c.requires)
-
-pub put-requires-2 : goal.put-requires-2
-put-requires-2 c = omega (arith, c.requires, c.put_records-end.ensures.end_is, records_short c.opening-opened.result.book c.args.file.now)
+pub put_records-requires : goal.put_records-requires
+put_records-requires c = (within c.args.size c.opening-opened.result c.opening-opened.ensures c.if-opened-ne0.false, c.requires)
 
 pub returns : goal.returns
 returns c =
     let o = c.opening-opened in
-    then (in_words (taken o.result (opening accounts c.args.size) c.args.file.now o.ensures c.if-opened-ne0.false) c.put_records-end.ensures) c.put-2.ensures
+    let first : Window = c.args.window.now in
+    let all : Puts first (body (opening accounts c.args.size) c.args.file.now) c.if-opened-ne0.window =
+    elim c.if-opened-ne0.branch [
+      | then-opened-ne0 w ↦ subst (Puts first _) (sym w.window-is) (puts_in_words (refused o.result (opening accounts c.args.size) c.args.file.now o.ensures w.if-opened-ne0.true) w.put_refused.ensures)
+      | else-opened-ne0 w ↦ subst (Puts first _) (sym w.window-is) (puts_in_words (taken o.result (opening accounts c.args.size) c.args.file.now o.ensures w.if-opened-ne0.false) w.put_records.ensures)
+    ] in
+    puts_then all c.put.ensures

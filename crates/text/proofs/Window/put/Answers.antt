@@ -1,12 +1,25 @@
--- `text::Window::put` meets its contract.
-use Rattle.std.proofs.Common.{sym, arith}
-use Rattle.std.proofs.lemmas.List.{take_more}
-use Rattle.text.proofs.Placing.{puts_then, puts_in_words, puts_nothing}
+-- `text::Window::put` meets its contract: what stands before the place, and the bytes over what follows it.
+use Rattle.std.proofs.Common.{◌≡◌, min, ◌-◌, ◌++◌, length, take, drop, refl, sym, ◌∙◌, ap, ap₂, arith}
+use Rattle.std.proofs.lemmas.List.{take_rest, drop_all, append-nil, length-drop}
+use Rattle.text.specs.Text.{Room, over}
+use Rattle.text.proofs.Placing.{placed_part}
 use Rattle.text.proofs.Window.put.Goals as goal
 
-pub loop-byte-init : goal.loop-byte-init
-loop-byte-init c = puts_nothing c.args.self.now
-
-pub loop-byte-preserved : goal.loop-byte-preserved
-loop-byte-preserved c =
-    puts_in_words (sym (take_more c.args.bytes.now c.loop-byte.byte-index 0 (omega arith))) (puts_then c.loop-byte.invariant c.put_byte.ensures)
+pub returns : goal.returns
+returns c =
+    let w = c.args.self.now in
+    let bytes = c.args.bytes.now in
+    let i = c.min-passed.result in
+    let j = c.min-start.result in
+    let passed : i ≡ min (w.from - w.at) (length bytes) = omega arith in
+    let start : j ≡ min (w.at - w.from) (length w.out.now) = omega arith in
+    let nothing_after = drop_all (length w.out.now - j) (drop j w.out.now) (omega (arith, length-drop j w.out.now)) in
+    let copied = ap₂ ◌++◌ (c.copy_over.ensures ∙ ap₂ over (take_rest bytes i) (take_rest w.out.now j)) nothing_after ∙ append-nil _ in
+    record {
+      same_buffer = refl;
+      from_is = refl;
+      put = λ (room : Room w.at bytes). record {
+        end_is = omega arith;
+        out_is = ap (λ l. take j w.out.now ++ l) copied ∙ sym (placed_part w.at w.from bytes w.out.now i j passed start);
+      };
+    }
