@@ -1,4 +1,5 @@
--- `methodology_test::rows::weigh` meets its contract: a basis of prices keeps the weighted sum within its limit. Assumes nothing.
+-- `methodology_test::weighted::Weighted::weigh` meets its contract: a basis of prices keeps the weighted sum within its limit.
+-- Assumes nothing.
 use mathlib.Core.Path.{◌≡◌}
 use mathlib.Core.Bool.{true}
 use Prim.Native.Nat.{ℕ, ◌<◌, ◌≤◌}
@@ -12,7 +13,7 @@ use Rattle.prices.specs.Price.{is_price}
 use Rattle.prices.proofs.Prices.{price_to}
 use Rattle.funding.specs.Minute.{basis_of, weighted_limit, Accrues}
 use Rattle.funding.proofs.Bounds.{basis_size, accrued_size}
-use Rattle.methodology_test.proofs.rows.weigh.Goals as goal
+use Rattle.methodology_test.proofs.weighted.Weighted.weigh.Goals as goal
 
 accrues : (S : ℤ) (k F u : ℕ) → nat_abs S ≤ weighted_limit k → k < 10 → is_price F ≡ true → is_price u ≡ true → Accrues S k (basis_of F u)
 accrues S k F u s n f i =
@@ -22,17 +23,18 @@ accrues S k F u s n f i =
 
 pub accrue-sum-requires : goal.accrue-sum-requires
 accrue-sum-requires c =
-    let sum : SFits w64 c.args.day.sum = search rules in
+    let day = c.args.self in
+    let sum : SFits w64 day.sum = search rules in
     let basis : SFits w64 c.basis-basis.result = record { sfits = c.basis-basis.type_inv } in
-    rw (to_z-of_z sum, to_z-of_z basis, c.basis-basis.ensures) (accrues c.args.day.sum c.args.day.count c.args.futures c.args.index c.requires.0 c.requires.1 c.requires.2 c.requires.3)
+    rw (to_z-of_z sum, to_z-of_z basis, c.basis-basis.ensures) (accrues day.sum day.count c.args.futures c.args.index day.within c.requires.0 c.requires.1 c.requires.2)
 
-pub returns : goal.returns
-returns c =
-    let S = c.args.day.sum in
-    let sum : SFits w64 S = search rules in
+pub invariant_of-result : goal.invariant_of-result
+invariant_of-result c =
+    let day = c.args.self in
+    let sum : SFits w64 day.sum = search rules in
     let basis : SFits w64 c.basis-basis.result = record { sfits = c.basis-basis.type_inv } in
-    let more : SFits w64 c.accrue-sum.result = record { sfits = c.accrue-sum.type_inv } in (
-      rw (to_z-of_z more, c.accrue-sum.ensures, to_z-of_z sum, to_z-of_z basis, c.basis-basis.ensures)
-          (accrued_size S c.args.day.count (basis_of c.args.futures c.args.index) (accrues S c.args.day.count c.args.futures c.args.index c.requires.0 c.requires.1 c.requires.2 c.requires.3)),
-      omega arith,
-    )
+    let more : SFits w64 c.accrue-sum.result = record { sfits = c.accrue-sum.type_inv } in
+    record {
+      within = rw (to_z-of_z more, c.accrue-sum.ensures, to_z-of_z sum, to_z-of_z basis, c.basis-basis.ensures)
+          (accrued_size day.sum day.count (basis_of c.args.futures c.args.index) (accrues day.sum day.count c.args.futures c.args.index day.within c.requires.0 c.requires.1 c.requires.2));
+    }
