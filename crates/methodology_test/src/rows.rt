@@ -1,5 +1,5 @@
 // The rows of the table: each is worked out by the library's crates and printed with what it is worked out from.
-ghost use Rattle.std.specs.Prelude.{◌<◌, ◌≤◌, nat_abs};
+ghost use Rattle.std.specs.Prelude.{◌≡◌, ◌<◌, ◌≤◌, nat_abs};
 ghost use Rattle.prices.specs.Price.{largest_price};
 ghost use Rattle.funding.specs.Terms.{clamp};
 
@@ -20,6 +20,7 @@ pub struct Spread {
 impl Spread {
     pub fn new(sample: Sample, places: u32) -> Self
         requires { places ≤ 7 }
+        ensures { (result.sample ≡ sample) × (result.places ≡ places) }
     {
         Spread { sample, places }
     }
@@ -49,6 +50,7 @@ pub struct Basis {
 impl Basis {
     pub fn new(futures: u32, index: u32) -> Self
         requires { 0 < index }
+        ensures { (result.futures ≡ futures) × (result.index ≡ index) }
     {
         Basis { futures, index }
     }
@@ -111,6 +113,7 @@ pub struct Amount {
 impl Amount {
     pub fn new(rate: i64, price: u32, contracts: i64) -> Self
         requires { (nat_abs rate ≤ clamp) × (price ≤ largest_price) × (nat_abs contracts ≤ 25) }
+        ensures { (result.rate ≡ rate) × (result.price ≡ price) × (result.contracts ≡ contracts) }
     {
         Amount {
             rate,

@@ -1,6 +1,8 @@
 // A minute of the examples.
-ghost use Rattle.std.specs.Prelude.{◌≡◌, true, ◌≤◌, IfSome};
+ghost use Rattle.std.specs.Prelude.{◌≡◌, true, ◌≤◌, ◌↔◌, IsTrue, IsSome, IfSome};
 ghost use Rattle.prices.specs.Price.{is_price};
+ghost use Rattle.funding.specs.Terms.{standard_terms};
+ghost use Rattle.funding.specs.Minute.{within_spread, futures_price};
 
 use calls::Market;
 use figures::product::Product;
@@ -22,6 +24,8 @@ pub struct Sample {
 impl Sample {
     pub fn new(bid: u32, offer: u32, last: u32, index: u32) -> Self
         requires { (is_price bid ≡ true) × (is_price offer ≡ true) × (is_price last ≡ true) × (is_price index ≡ true) }
+        ensures market { (result.market.bid ≡ bid) × (result.market.offer ≡ offer) }
+        ensures rest { (result.last ≡ last) × (result.index ≡ index) }
     {
         let market = Market { bid, offer };
         Sample {
@@ -33,7 +37,9 @@ impl Sample {
 
     // The futures price of a valid minute, whose market is narrow enough.
     pub fn futures_price(self) -> Option<u32>
-        ensures { IfSome result (λ price. is_price price ≡ true) }
+        ensures valid { IsSome result ↔ IsTrue (within_spread standard_terms self.market.bid self.market.offer) }
+        ensures value { IfSome result (λ price. price ≡ futures_price self.market.bid self.market.offer self.last) }
+        ensures is_price { IfSome result (λ price. is_price price ≡ true) }
     {
         let Market { bid, offer } = self.market;
         if funding::within_spread(bid, offer, Product::terms()) {

@@ -1,7 +1,7 @@
 // The weighted sum of an example's valid minutes.
 ghost use Rattle.std.specs.Prelude.{◌≡◌, true, ◌+◌, ◌<◌, ◌≤◌, nat_abs};
 ghost use Rattle.prices.specs.Price.{is_price};
-ghost use Rattle.funding.specs.Minute.{weighted_limit};
+ghost use Rattle.funding.specs.Minute.{weighted_limit, accrued, basis_of};
 
 use crate::sample::Sample;
 use std::fmt;
@@ -25,7 +25,8 @@ impl Weighted {
     // With one more valid minute.
     fn weigh(self, futures: u32, index: u32) -> Self
         requires { (self.count < 10) × (is_price futures ≡ true) × (is_price index ≡ true) }
-        ensures { result.count ≤ self.count + 1 }
+        ensures count { result.count ≡ self.count + 1 }
+        ensures sum { result.sum ≡ accrued self.sum self.count (basis_of futures index) }
     {
         let basis = funding::basis(futures, index);
         let sum = funding::accrue(self.sum, self.count, basis);
