@@ -1,7 +1,8 @@
 // The weighted sum of an example's valid minutes.
-ghost use Rattle.std.specs.Prelude.{◌≡◌, true, ◌+◌, ◌<◌, ◌≤◌, nat_abs};
+ghost use Rattle.std.specs.Prelude.{◌≡◌, true, ◌+◌, ◌<◌, ◌≤◌, nat_abs, IsTrue};
 ghost use Rattle.prices.specs.Price.{is_price};
-ghost use Rattle.funding.specs.Minute.{weighted_limit, accrued, basis_of};
+ghost use Rattle.funding.specs.Terms.{standard_terms};
+ghost use Rattle.funding.specs.Minute.{weighted_limit, within_spread, futures_price, accrued, basis_of};
 
 use crate::sample::Sample;
 use std::fmt;
@@ -37,7 +38,11 @@ impl Weighted {
     // With a minute, where it is valid.
     pub fn with_minute(self, sample: Sample) -> Self
         requires { self.count < 10 }
-        ensures { result.count ≤ self.count + 1 }
+        ensures count { result.count ≤ self.count + 1 }
+        ensures valid { let market = sample.market in IsTrue (within_spread standard_terms market.bid market.offer)
+            → result.sum ≡ accrued self.sum self.count (basis_of (futures_price market.bid market.offer sample.last) sample.index) }
+        ensures invalid { let market = sample.market in ¬ IsTrue (within_spread standard_terms market.bid market.offer)
+            → result ≡ self }
     {
         match sample.futures_price() {
             Some(futures) => self.weigh(futures, sample.index),

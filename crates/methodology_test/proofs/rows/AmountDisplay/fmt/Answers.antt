@@ -1,12 +1,5 @@
 -- The funding of few contracts fits: an amount is within its limit. Assumes nothing.
-use mathlib.Core.List.{◌∷◌, []}
-use Prim.Native.Nat.{◌≤◌}
-use native.Mathlib.Omega.{arith}
-use lib.IntN.{nat_abs}
-use mir.Syntax.{w64}
-use mir.Val.{SFits}
-use mir.Facts.{to_z-of_z}
-use borrow.Author.Rules.{rules}
+use Rattle.std.proofs.Common.{[], ◌∷◌, ◌≤◌, nat_abs, w64, SFits, to_z-of_z, arith, rules}
 use Rattle.integers.specs.declared.Tie.TheVariants.{Even}
 use Rattle.integers.proofs.Overflow.{arg, mul, val, Within, ◌▹◌, done, safe}
 use Rattle.prices.specs.Price.{largest_price}

@@ -1,8 +1,5 @@
 -- `methodology_test::sample::Sample::normalized_spread` is safe: two prices and a scale of seven places stay below 2 ^ 63. Assumes nothing.
-use mathlib.Core.List.{◌∷◌, []}
-use Prim.Native.Nat.{◌≤◌}
-use native.Mathlib.Omega.{arith}
-use lib.IntN.{pos}
+use Rattle.std.proofs.Common.{[], ◌∷◌, ◌≤◌, pos, arith}
 use Rattle.integers.proofs.Overflow.{arg, lit, sub, mul, nat, Within, ◌▹◌, done, safe}
 use Rattle.methodology_test.proofs.sample.Sample.normalized_spread.Goals as goal
 

@@ -1,14 +1,6 @@
 -- `methodology_test::weighted::Weighted::weigh` meets its contract: a basis of prices keeps the weighted sum within its limit.
 -- Assumes nothing.
-use mathlib.Core.Path.{◌≡◌}
-use mathlib.Core.Bool.{true}
-use Prim.Native.Nat.{ℕ, ◌<◌, ◌≤◌}
-use native.Mathlib.Omega.{arith}
-use lib.IntN.{ℤ, nat_abs}
-use mir.Syntax.{w64}
-use mir.Val.{SFits}
-use mir.Facts.{to_z-of_z}
-use borrow.Author.Rules.{rules}
+use Rattle.std.proofs.Common.{◌≡◌, true, ℕ, ◌<◌, ◌≤◌, ℤ, nat_abs, w64, SFits, to_z-of_z, arith, rules}
 use Rattle.prices.specs.Price.{is_price}
 use Rattle.prices.proofs.Prices.{price_to}
 use Rattle.funding.specs.Minute.{basis_of, weighted_limit, Accrues}
