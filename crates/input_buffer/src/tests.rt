@@ -3,7 +3,7 @@ use std::io;
 use std::io::{ErrorKind, Read};
 use std::test::Fail;
 
-// Gives a byte a time, and fails once where none is left.
+// Gives a byte at a time, and fails once where none is left.
 #[derive(Drop)]
 struct Halting<'a> {
     bytes: &'a [u8],
