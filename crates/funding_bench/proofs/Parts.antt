@@ -1,13 +1,10 @@
 -- A text that is written through a buffer, a part of it at a time, and the bytes that are read of an input.
 --     last_part, next_part    a writer that holds the text up to a place holds more of it after the next part, and all of it after the last
---     read_more               the front of a buffer is what a reader gave, and is so after one more read
 --     from_counted            what holds of the bytes that count, where those were read
 -- Assumes nothing.
-use Rattle.std.proofs.Common.{◌≡◌, ℕ, ◌+◌, ◌-◌, ◌≤◌, List, [], ◌∷◌, length, take, drop, Option, None, Some, IfSome, refl, sym, ap, ◌∙◌, subst, take-take, take-add, take-append-drop, length-drop, length-take-le, ◌++◌, arith}
-use Rattle.std.specs.Io.KnownBytes.{Appends, Consumes}
-use Rattle.std.proofs.KnownBytes.{Appends-trans, Consumes-trans}
-use Rattle.std.proofs.Math.Seq.{take-append-add, take-append-le}
-use borrow.Rule.Slice.PartMut.{put_mid, post_of}
+use Rattle.std.proofs.Common.{◌≡◌, ℕ, ◌+◌, ◌-◌, ◌≤◌, List, [], ◌∷◌, length, take, drop, Option, None, Some, IfSome, refl, sym, ap, ◌∙◌, subst, take-take, take-add, take-append-drop, length-drop, arith}
+use Rattle.std.specs.Io.KnownBytes.{Appends}
+use Rattle.std.proofs.KnownBytes.{Appends-trans}
 use Rattle.text.specs.Text.{over}
 
 all_over : (text out : List ℕ) → length text ≤ length out → take (length text) (over text out) ≡ text
@@ -34,17 +31,6 @@ module _ (a b c : Option (List ℕ)) (text part out : List ℕ) (from : ℕ) (be
       let rest = drop from text in
       let more : out ≡ take most rest = filled ∙ part_over rest part (omega (arith, length-drop from text)) ∙ ap (λ n. take n rest) e in
       subst (Appends a c) (sym (take-add from most text)) (Appends-trans a b c (take from text) (take most rest) before (subst (Appends b c) more p))
-
--- one more read, after what was read before; the part of the buffer that it got lies where that ends
-module _ (a b c : Option (List ℕ)) (buffer part : List ℕ) (at room : ℕ) (before : Consumes a b (take at buffer)) (within : at ≤ length buffer) where
-  pub read_more : (n to : ℕ) → to ≡ at + n → n ≤ length part → Consumes b c (take n part) → Consumes a c (take to (put_mid at room buffer part))
-  read_more n to e h p =
-      let front = take at buffer in
-      let rest = post_of at room buffer in
-      let long : to ≡ length front + n = omega (arith, e, length-take-le at buffer within) in
-      let more : take to (put_mid at room buffer part) ≡ front ++ take n part =
-      ap (λ k. take k (put_mid at room buffer part)) long ∙ take-append-add front (part ++ rest) n ∙ ap (λ xs. front ++ xs) (take-append-le n part rest h) in
-      subst (Consumes a c) (sym more) (Consumes-trans a b c front (take n part) before p)
 
 pub from_counted : (most long : ℕ) (known : Option (List ℕ)) (input : List ℕ) (P : List ℕ → Type 0)
     → long ≡ most → IfSome known (λ xs. input ≡ take long xs) → P (take most input) → IfSome known (λ xs. P (take most xs))

@@ -2,22 +2,26 @@
 // it is written out, a part of it at a time.
 #![tactic(auto)]
 
-ghost use Rattle.std.specs.Prelude.{◌≡◌, ◌≤◌, length, take, IfOk, OnOk, IfSome};
+ghost use Rattle.std.specs.Prelude.{OnOk, IfSome};
 ghost use Rattle.std.specs.Io.KnownBytes.{Appends};
 ghost use Rattle.printout.specs.Printout.{printout};
 
+use input_buffer::read_full;
 use std::io;
 use std::io::{Read, Write};
 
 // The bytes of an input that count.
 const MOST_INPUT: usize = 65_536;
 
-// Writes the printout of an input. Each part is made anew from the input, so that a printout of any length goes through one
-// buffer; most fit it whole.
+// The bytes of a printout that are written at a time. Each part plays the whole input anew, so it is as long as most printouts
+// are; a longer one would only make the program's stack larger.
+const PART: usize = 65_536;
+
+// Writes the printout of an input, of any length. The parts are made one by one, so there is no text to cut into chunks.
 fn print<W: Write>(out: &mut W, input: &[u8]) -> io::Result<()>
     ensures { OnOk result (Appends (W.contents out.old) (W.contents out.new) (printout input.now)) }
 {
-    let mut part = [0u8; 65_536];
+    let mut part = [0u8; PART];
     let mut from: usize = 0;
     loop {
         let length = printout::write(input, from, &mut part);
@@ -28,23 +32,6 @@ fn print<W: Write>(out: &mut W, input: &[u8]) -> io::Result<()>
         out.write_all(&part)?;
         from += part.len();
     }
-}
-
-// Reads until the buffer is full or the reader has no more, and answers how many bytes it read.
-fn read_full<R: Read>(reader: &mut R, buffer: &mut [u8]) -> io::Result<usize>
-    ensures within { IfOk result (λ n. n ≤ length buffer.new) }
-    ensures bytes { IfSome (R.remaining reader.old) (λ bytes. IfOk result (λ n.
-        take n buffer.new ≡ take (length buffer.new) bytes)) }
-{
-    let mut at: usize = 0;
-    while at < buffer.len() {
-        let n = reader.read(&mut buffer[at..])?;
-        if n == 0 {
-            return Ok(at);
-        }
-        at += n;
-    }
-    Ok(at)
 }
 
 // Writes the printout of what a reader has.

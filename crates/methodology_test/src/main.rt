@@ -2,85 +2,91 @@
 // tests/methodology/table.txt, against which the reference is tested, in that file's order.
 #![tactic(auto)]
 
-mod print;
 mod rows;
+mod sample;
+mod weighted;
 
-ghost use Rattle.std.specs.Prelude.{◌≡◌, ◌≤◌, true, nat_abs, IfOk, ◌+◌, ◌<◌};
+ghost use Rattle.std.specs.Prelude.{◌≡◌, true};
 ghost use Rattle.prices.specs.Price.{is_price};
-ghost use Rattle.funding.specs.Minute.{weighted_limit};
 
-use rows::{Weighted, amount, basis, clamp, minute, print_minute, rate, spread};
+use rows::{Amount, Basis, Clamp, Spread, WeightedMinute};
+use sample::Sample;
+use std::fmt::Display;
 use std::io;
+use weighted::Weighted;
 
-fn no_minutes() -> Weighted
-    ensures { (nat_abs result.sum ≤ weighted_limit result.count) × (result.count ≡ 0) }
-{
-    Weighted { count: 0, sum: 0 }
+fn print_rows<R: Display>(rt: &impl Print, rows: &[R]) -> io::Result<()> {
+    for row in rows {
+        println!(rt; "{row}")?;
+    }
+    Ok(())
 }
 
 fn spreads(rt: &impl Print) -> io::Result<()> {
-    spread(
-        rt, 8_391_030, 8_391_040, 8_391_500, 8_391_603, 7, 10_000_000,
-    )?;
-    spread(
-        rt, 8_396_580, 8_396_590, 8_396_580, 8_398_313, 7, 10_000_000,
-    )?;
-    spread(rt, 8_356_610, 8_398_610, 8_400_000, 8_399_016, 5, 100_000)
+    let rows = [
+        Spread::new(Sample::new(8_391_030, 8_391_040, 8_391_500, 8_391_603), 7),
+        Spread::new(Sample::new(8_396_580, 8_396_590, 8_396_580, 8_398_313), 7),
+        Spread::new(Sample::new(8_356_610, 8_398_610, 8_400_000, 8_399_016), 5),
+    ];
+    print_rows(rt, &rows)
 }
 
 fn bases(rt: &impl Print) -> io::Result<()> {
-    basis(rt, 8_391_035, 8_391_603)?;
-    basis(rt, 8_396_580, 8_398_313)?;
-    basis(rt, 8_398_605, 8_399_016)?;
-    basis(rt, 8_399_460, 8_399_921)?;
-    basis(rt, 8_400_790, 8_404_832)
-}
-
-// A minute of the sample weights, printed with its weight and basis.
-fn weighted(
-    rt: &impl Print,
-    day: Weighted,
-    bid: u32,
-    offer: u32,
-    last: u32,
-    index: u32,
-) -> io::Result<Weighted>
-    requires { (nat_abs day.sum ≤ weighted_limit day.count) × (day.count < 10)
-        × (is_price bid ≡ true) × (is_price offer ≡ true) × (is_price last ≡ true) × (is_price index ≡ true) }
-    ensures { IfOk result (λ r. (nat_abs r.sum ≤ weighted_limit r.count) × (r.count ≤ day.count + 1)) }
-{
-    let after = minute(day, bid, offer, last, index);
-    print_minute(rt, bid, offer, last, index, after.count)?;
-    Ok(after)
+    let rows = [
+        Basis::new(8_391_035, 8_391_603),
+        Basis::new(8_396_580, 8_398_313),
+        Basis::new(8_398_605, 8_399_016),
+        Basis::new(8_399_460, 8_399_921),
+        Basis::new(8_400_790, 8_404_832),
+    ];
+    print_rows(rt, &rows)
 }
 
 // The five minutes of the sample weights; the examples differ in the third one's bid.
+fn samples(bid: u32) -> [Sample; 5]
+    requires { is_price bid ≡ true }
+{
+    [
+        Sample::new(8_391_030, 8_391_040, 8_391_500, 8_391_603),
+        Sample::new(8_396_580, 8_396_590, 8_396_580, 8_398_313),
+        Sample::new(bid, 8_398_610, 8_400_000, 8_399_016),
+        Sample::new(8_399_450, 8_399_460, 8_399_460, 8_399_921),
+        Sample::new(8_400_790, 8_400_800, 8_400_790, 8_404_832),
+    ]
+}
+
+// Each minute with its weight and basis, then the rate.
 fn weights(rt: &impl Print, bid: u32) -> io::Result<()>
     requires { is_price bid ≡ true }
 {
-    let day = weighted(rt, no_minutes(), 8_391_030, 8_391_040, 8_391_500, 8_391_603)?;
-    let day = weighted(rt, day, 8_396_580, 8_396_590, 8_396_580, 8_398_313)?;
-    let day = weighted(rt, day, bid, 8_398_610, 8_400_000, 8_399_016)?;
-    let day = weighted(rt, day, 8_399_450, 8_399_460, 8_399_460, 8_399_921)?;
-    let day = weighted(rt, day, 8_400_790, 8_400_800, 8_400_790, 8_404_832)?;
-    rate(rt, day)
+    let mut day = Weighted::none();
+    for sample in samples(bid) {
+        day = day.with_minute(sample);
+        let weight = day.count;
+        println!(rt; "{}", WeightedMinute { sample, weight })?;
+    }
+    println!(rt; "{day}")
 }
 
 fn clamps(rt: &impl Print) -> io::Result<()> {
-    clamp(rt, -1_976_140)?;
-    clamp(rt, -1_950_040)?;
-    clamp(rt, -2_148_730)
+    print_rows(
+        rt,
+        &[Clamp(-1_976_140), Clamp(-1_950_040), Clamp(-2_148_730)],
+    )
 }
 
 fn amounts(rt: &impl Print) -> io::Result<()> {
-    amount(rt, 250_000, 11_674_700, 1)?;
-    amount(rt, 250_000, 11_674_700, -1)?;
-    amount(rt, 250_000, 11_674_700, 12)?;
-    amount(rt, 250_000, 11_674_700, -12)?;
-    amount(rt, -180_000, 11_832_400, 1)?;
-    amount(rt, -180_000, 11_832_400, -1)?;
-    amount(rt, -180_000, 11_832_400, 25)?;
-    amount(rt, -180_000, 11_832_400, -25)
+    let rows = [
+        Amount::new(250_000, 11_674_700, 1),
+        Amount::new(250_000, 11_674_700, -1),
+        Amount::new(250_000, 11_674_700, 12),
+        Amount::new(250_000, 11_674_700, -12),
+        Amount::new(-180_000, 11_832_400, 1),
+        Amount::new(-180_000, 11_832_400, -1),
+        Amount::new(-180_000, 11_832_400, 25),
+        Amount::new(-180_000, 11_832_400, -25),
+    ];
+    print_rows(rt, &rows)
 }
 
 fn main(rt: HostRuntime) -> io::Result<()> {

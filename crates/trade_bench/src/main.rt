@@ -2,7 +2,7 @@
 // were accepted: all of them.
 #![tactic(auto)]
 
-use calls::{Kind, Trade};
+use calls::Trade;
 use figures::product::Product;
 use ledger::Book;
 use std::io;
@@ -11,22 +11,24 @@ const TRADES: u64 = 1_000_000;
 
 // One contract goes from account 0 to account 1 and back, so that no limit is met.
 fn trade_at(place: u64) -> Trade {
-    let forth = place % 2 == 0;
+    let (buyer, seller) = if place % 2 == 0 { (1, 0) } else { (0, 1) };
     Trade {
-        buyer: if forth { 1 } else { 0 },
-        seller: if forth { 0 } else { 1 },
-        kind: Kind::Simple,
+        buyer,
+        seller,
+        kind: 0,
         quantity: 1,
         price: 200_200,
     }
 }
 
-fn play(opened: Book) -> u64 {
-    let mut book = opened;
-    let mut accepted: u64 = 0;
+// How many of the trades a book accepts.
+fn play(mut book: Book) -> u64 {
+    let mut accepted = 0;
     for place in 0..TRADES {
         let answer = book.trade(trade_at(place));
-        accepted += (answer.code == 0) as u64;
+        if answer.code == 0 {
+            accepted += 1;
+        }
         book = answer.book;
     }
     accepted

@@ -1,0 +1,8 @@
+-- The scale of at most seven places is at most 10,000,000. Assumes nothing.
+use Rattle.std.proofs.Common.{arith}
+use Rattle.std.proofs.Math.Nat.{pow-le-pow_right}
+use Rattle.methodology_test.proofs.rows.SpreadDisplay.fmt.Goals as goal
+
+pub normalized_spread-spread-requires : goal.normalized_spread-spread-requires
+normalized_spread-spread-requires g c =
+    rw c.pow.ensures (pow-le-pow_right (omega arith) c.args.self.now.few_places)

@@ -1,0 +1,60 @@
+// The weighted sum of an example's valid minutes.
+ghost use Rattle.std.specs.Prelude.{◌≡◌, true, ◌+◌, ◌<◌, ◌≤◌, nat_abs, IsTrue};
+ghost use Rattle.prices.specs.Price.{is_price};
+ghost use Rattle.funding.specs.Terms.{standard_terms};
+ghost use Rattle.funding.specs.Minute.{weighted_limit, within_spread, futures_price, accrued, basis_of};
+
+use crate::sample::Sample;
+use std::fmt;
+use std::fmt::{Display, Formatter};
+
+// The valid minutes of an example so far, and their weighted sum.
+#[derive(Clone, Copy)]
+pub struct Weighted {
+    pub count: u32,
+    pub sum: i64,
+    ghost within: { nat_abs sum ≤ weighted_limit count },
+}
+
+impl Weighted {
+    pub fn none() -> Self
+        ensures { result.count ≡ 0 }
+    {
+        Weighted { count: 0, sum: 0 }
+    }
+
+    // With one more valid minute.
+    fn weigh(self, futures: u32, index: u32) -> Self
+        requires { (self.count < 10) × (is_price futures ≡ true) × (is_price index ≡ true) }
+        ensures count { result.count ≡ self.count + 1 }
+        ensures sum { result.sum ≡ accrued self.sum self.count (basis_of futures index) }
+    {
+        let basis = funding::basis(futures, index);
+        let sum = funding::accrue(self.sum, self.count, basis);
+        let count = self.count + 1;
+        Weighted { count, sum }
+    }
+
+    // With a minute, where it is valid.
+    pub fn with_minute(self, sample: Sample) -> Self
+        requires { self.count < 10 }
+        ensures count { result.count ≤ self.count + 1 }
+        ensures valid { let market = sample.market in IsTrue (within_spread standard_terms market.bid market.offer)
+            → result.sum ≡ accrued self.sum self.count (basis_of (futures_price market.bid market.offer sample.last) sample.index) }
+        ensures invalid { let market = sample.market in ¬ IsTrue (within_spread standard_terms market.bid market.offer)
+            → result ≡ self }
+    {
+        match sample.futures_price() {
+            Some(futures) => self.weigh(futures, sample.index),
+            None => self,
+        }
+    }
+}
+
+// Valid minutes; their rate.
+impl Display for Weighted {
+    fn fmt<W: fmt::Write>(&self, f: &mut Formatter<W>) -> fmt::Result {
+        let rate = settlement::rate(self.count, self.sum);
+        write!(f, "rate {} {rate}", self.count)
+    }
+}
