@@ -1,75 +1,87 @@
 -- How a run over a file goes on.
---     begins, ends               at the start, and where no call is left
---     skips, skips_all, stepped     past a record that is no call, past all that is left where no call is, and past a call
---     joined                     one part after another
+--     begins, ends     at the start, and where nothing is left of the file
+--     one_call, no_call     what one call leads to, and none
+--     goes_on          past a record, with its call played
 -- Assumes nothing.
 use mathlib.Core.Path.{◌≡◌, refl, sym, ◌∙◌, ap, ap₂}
 use mathlib.Core.Bool.{Bool, true, false, cond}
 use mathlib.Core.List.{List, [], ◌∷◌}
-use Prim.Native.Nat.{ℕ, ◌+◌, ◌≤◌, ◌<◌}
+use Prim.Native.Nat.{ℕ, ◌+◌, ◌≤◌}
 use native.Mathlib.Omega.{arith}
-use lib.Dec.{eqb}
 use lib.ListN.{length}
+use Rattle.std.specs.Prelude.{Option, Some, None, Result, Ok, Err, is_ok, nat_eq}
 use Rattle.integers.specs.Lists.{keep_if}
 use Rattle.calls.specs.declared.Call.{Call}
 use Rattle.columns.specs.Columns.{accounts}
 use Rattle.ledger.specs.declared.Book.{Book}
-use Rattle.ledger.specs.declared.Answer.{Answer}
-use Rattle.ledger.specs.Step.{step, run, accepted_calls, is_accepted}
-use Rattle.ledger.proofs.Keeping.{stays_within}
-use Rattle.dayfile.specs.Calls.{calls_from, calls_of}
-use Rattle.dayfile.proofs.Reading.{at_end}
-use Rattle.dayfile.proofs.Calls.{calls_at_end}
-use Rattle.records.specs.Run.{run_over, Ready, Running}
+use Rattle.ledger.specs.Step.{Answered, answer_of, step, run, accepted_calls, is_accepted}
+use Rattle.figures.specs.declared.Fixing.{Fixing}
+use Rattle.refusals.specs.declared.Refusal.{Refusal}
+use Rattle.refusals.proofs.Numbers.{is_zero}
+use Rattle.dayfile.specs.declared.RecordError.{RecordError}
+use Rattle.dayfile.specs.declared.Read.{Read}
+use Rattle.dayfile.specs.Record.{read_at}
+use Rattle.dayfile.specs.Calls.{called, calls_from, calls_of}
+use Rattle.dayfile.proofs.Calls.{calls_at, calls_at_end}
+use Rattle.dayfile.proofs.Forward.{further_to}
+use Rattle.records.specs.Run.{RunEnd, run_over, Running}
 
-pub begins : {file : List ℕ} {b : Book} {count at : ℕ} → Ready file b count at → Running file b count at b count at
-begins h = record { ready = h; onward = omega arith; book_is = refl; count_is = refl }
+abbrev accepted : Book → List Call → ℕ
+accepted b cs = length (accepted_calls accounts b cs)
 
-equal : {file : List ℕ} {start b b' : Book} {before from count count' at : ℕ} → b' ≡ b → count' ≡ count → Running file start before from b count at → Running file start before from b' count' at
-equal {file} {start} {before = before} {from = from} {at = at} e f r = rw (e, f) r
+-- a record's call and those after it: what it leads to, and then what these lead to
+book_then : (b : Book) (call : Result (Option Call) RecordError) (rest : List Call) → run accounts b (called call rest) ≡ run accounts (run accounts b (called call [])) rest
+unfolding run
+book_then b (Ok None) rest = refl
+book_then b (Ok (Some c)) rest = refl
+book_then b (Err e) rest = refl
 
-pub joined : {file : List ℕ} {start b b' : Book} {before from count at count' at' : ℕ} → Running file start before from b count at → Running file b count at b' count' at' → Running file start before from b' count' at'
-joined r s = record { ready = s.ready; onward = omega (arith, r.onward, s.onward); book_is = r.book_is ∙ s.book_is; count_is = r.count_is ∙ s.count_is }
+count_then : (b : Book) (call : Result (Option Call) RecordError) (rest : List Call) → accepted b (called call rest) ≡ accepted b (called call []) + accepted (run accounts b (called call [])) rest
+unfolding run accepted_calls
+count_then b (Ok None) rest = omega arith
+count_then b (Ok (Some c)) rest = one_more (is_accepted accounts b c) (accepted_calls accounts (step accounts b c).book rest)
+  where
+    one_more : (t : Bool) (cs : List Call) → length (keep_if t c cs) ≡ length (keep_if t c []) + length cs
+    one_more true cs = omega arith
+    one_more false cs = omega arith
+count_then b (Err e) rest = omega arith
 
-pub ends : {file : List ℕ} {start b : Book} {count at : ℕ} → Running file start 0 0 b count at → calls_from file at ≡ [] → record { accepted = count; book = b } ≡ run_over start (calls_of file)
+-- one call, by whether it was accepted
+pub one_call : (b : Book) (c : Call) (r : Result (Option Fixing) Refusal) (b' : Book) → answer_of r b' ≡ step accounts b c → record { accepted = cond (is_ok r) 1 0; book = b' } ≡ run_over b (c ∷ [])
+unfolding run accepted_calls step
+one_call b c r b' e =
+    let t : is_ok r ≡ is_accepted accounts b c = sym (is_zero r) ∙ ap (λ (a : Answered). nat_eq a.code 0) e in
+    ap₂ (λ (k : ℕ) (x : Book). record { accepted = k; book = x }) (ap (λ (t : Bool). cond t 1 0) t ∙ kept (is_accepted accounts b c)) (ap (λ (a : Answered). a.book) e)
+  where
+    kept : (t : Bool) → cond t 1 0 ≡ length (keep_if t c [])
+    kept true = refl
+    kept false = refl
+
+pub no_call : (b : Book) → record { accepted = 0; book = b } ≡ run_over b []
+unfolding run accepted_calls
+no_call b = refl
+
+pub begins : (file : List ℕ) (b : Book) → Running file b b 0 0
+begins file b = record { fewer = omega arith; inside = omega arith; book_is = refl; count_is = omega arith }
+
+pub ends : {file : List ℕ} {start b : Book} {count at : ℕ} → Running file start b count at → read_at file at ≡ None → record { accepted = count; book = b } ≡ run_over start (calls_of file)
 unfolding run accepted_calls
 ends {file} {start} {b} {count} {at} r e =
-    let none : length (accepted_calls accounts b (calls_from file at)) ≡ 0 = ap (λ (cs : List Call). length (accepted_calls accounts b cs)) e in
-    let n : count ≡ length (accepted_calls accounts start (calls_of file)) = omega (arith, r.count_is) in
-    ap₂ (λ (k : ℕ) (c : Book). record { accepted = k; book = c }) n (sym (r.book_is ∙ ap (run accounts b) e))
+    let left : calls_from file at ≡ [] = calls_at_end file at e in
+    let n : count ≡ accepted start (calls_of file) = omega (arith, r.count_is, ap (accepted b) left) in
+    ap₂ (λ (k : ℕ) (c : Book). record { accepted = k; book = c }) n (sym (r.book_is ∙ ap (run accounts b) left))
 
-module _ {file : List ℕ} {start b : Book} {before from count at : ℕ} (r : Running file start before from b count at) where
-  pub skips : (next : ℕ) → at ≤ next → next ≤ length file → calls_from file at ≡ calls_from file next → Running file start before from b count next
-  skips next near far e =
-      record {
-        ready = record { within = r.ready.within; inside = far; fewer = omega (arith, r.ready.fewer) };
-        onward = omega (arith, r.onward);
-        book_is = r.book_is ∙ ap (run accounts b) e;
-        count_is = r.count_is ∙ ap (λ (cs : List Call). count + length (accepted_calls accounts b cs)) e;
-      }
-
-  pub skips_all : calls_from file at ≡ [] → Running file start before from b count (length file)
-  skips_all e = skips (length file) r.ready.inside (omega arith) (e ∙ sym (calls_at_end file (length file) (at_end file (length file) (omega arith))))
-
-  steps : (c : Call) (next : ℕ) → at < next → next ≤ length file → calls_from file at ≡ c ∷ calls_from file next → Running file start before from (step accounts b c).book (count + cond (eqb (step accounts b c).code 0) 1 0) next
-  unfolding run accepted_calls step
-  steps c next near far e =
-      record {
-        ready = record { within = stays_within accounts b c r.ready.within; inside = far; fewer = at_most (is_accepted accounts b c) };
-        onward = omega (arith, r.onward);
-        book_is = r.book_is ∙ ap (run accounts b) e;
-        count_is = r.count_is ∙ ap (λ (cs : List Call). count + length (accepted_calls accounts b cs)) e ∙ one_more (is_accepted accounts b c) (accepted_calls accounts (step accounts b c).book (calls_from file next));
-      }
-    where
-      at_most : (t : Bool) → count + cond t 1 0 ≤ next
-      at_most true = omega (arith, r.ready.fewer)
-      at_most false = omega (arith, r.ready.fewer)
-
-      one_more : (t : Bool) (cs : List Call) → count + length (keep_if t c cs) ≡ count + cond t 1 0 + length cs
-      one_more true cs = omega arith
-      one_more false cs = omega arith
-
-  pub stepped : (c : Call) (next : ℕ) → at < next → next ≤ length file → calls_from file at ≡ c ∷ calls_from file next
-      → {x : Answer} {n : ℕ} → x ≡ step accounts b c → n ≡ count + cond (eqb x.code 0) 1 0 → Running file start before from x.book n next
-  stepped c next near far e {x} {n} a h =
-      equal (ap (λ (x : Answer). x.book) a) (h ∙ ap (λ (x : Answer). count + cond (eqb x.code 0) 1 0) a) (steps c next near far e)
+pub goes_on : {file : List ℕ} {start b b' : Book} {count at more : ℕ} → Running file start b count at → (r : Read) → read_at file at ≡ Some r
+    → record { accepted = more; book = b' } ≡ run_over b (called r.call []) → more ≤ 1 → Running file start b' (count + more) r.next
+goes_on {file} {start} {b} {b'} {count} {at} {more} h r e played one =
+    let on = further_to file at r e in
+    let calls = calls_at file at r e in
+    let rest = calls_from file r.next in
+    let book : run accounts b (called r.call []) ≡ b' = sym (ap (λ (x : RunEnd). x.book) played) in
+    let number : accepted b (called r.call []) ≡ more = sym (ap (λ (x : RunEnd). x.accepted) played) in
+    record {
+      fewer = omega (arith, h.fewer, on.0);
+      inside = on.1;
+      book_is = h.book_is ∙ ap (run accounts b) calls ∙ book_then b r.call rest ∙ ap (λ (x : Book). run accounts x rest) book;
+      count_is = omega (arith, h.count_is, ap (accepted b) calls, count_then b r.call rest, number, ap (λ (x : Book). accepted x rest) book);
+    }

@@ -3,25 +3,22 @@ use mathlib.Core.{Path.◌≡◌, List.List}
 use Rattle.std.specs.Prelude.{ℕ, ◌+◌, ◌≤◌, length}
 use Rattle.calls.specs.declared.Call.{Call}
 use Rattle.columns.specs.Columns.{accounts}
-use Rattle.ledger.specs.{declared.Book.Book, Step.run, Step.accepted_calls, Inner.WithinLimits}
+use Rattle.ledger.specs.{declared.Book.Book, Step.run, Step.accepted_calls}
 use Rattle.dayfile.specs.Calls.{calls_from}
-use Rattle.records.specs.declared.RunEnd.{RunEnd}
+
+-- where a run ended: the records accepted, and the book
+pub record RunEnd : Type 0 where
+  pub accepted : ℕ
+  pub book : Book
 
 -- a book after a list of calls, and how many of them it accepted
 abbrev pub run_over : Book → List Call → RunEnd
 run_over b cs = record { accepted = length (accepted_calls accounts b cs); book = run accounts b cs }
 
--- ---- what the private loops of a run promise each other, which a reader can skip: a part of the run may stop anywhere and leads to the same end
-
--- a book within its limits, at a place of a file and with this many accepted records
-pub record Ready (file : List ℕ) (b : Book) (count at : ℕ) : Type 0 where
-  pub within : WithinLimits accounts b
-  pub inside : at ≤ length file
+-- ---- what the loop of a run keeps, which a reader can skip: what began with one book has come to a place of the file with another, and what follows leads
+-- to the same end
+pub record Running (file : List ℕ) (start b : Book) (count at : ℕ) : Type 0 where
   pub fewer : count ≤ at
-
--- what began at a place with one book and count has come to a later place with another: what follows leads to the same end
-pub record Running (file : List ℕ) (start : Book) (before from : ℕ) (b : Book) (count at : ℕ) : Type 0 where
-  pub ready : Ready file b count at
-  pub onward : from ≤ at
-  pub book_is : run accounts start (calls_from file from) ≡ run accounts b (calls_from file at)
-  pub count_is : before + length (accepted_calls accounts start (calls_from file from)) ≡ count + length (accepted_calls accounts b (calls_from file at))
+  pub inside : at ≤ length file
+  pub book_is : run accounts start (calls_from file 0) ≡ run accounts b (calls_from file at)
+  pub count_is : length (accepted_calls accounts start (calls_from file 0)) ≡ count + length (accepted_calls accounts b (calls_from file at))

@@ -1,19 +1,32 @@
--- `records::run` meets its contract. The loop's invariant is `Running`; the measure is what is left of the file.
-use mathlib.Core.Path.{◌∙◌, ap}
+-- `records::run` meets its contract.
+use mathlib.Core.Path.{◌≡◌, refl, sym, ◌∙◌}
+use mir.Val.{bool_byte}
+use mathlib.Core.Bool.{Bool, true, false, cond}
+use Prim.Native.Nat.{◌≤◌}
 use native.Mathlib.Omega.{arith}
-use Rattle.dayfile.proofs.Reading.{at_end}
-use Rattle.dayfile.proofs.Calls.{calls_at_end}
-use Rattle.dayfile.specs.Calls.{calls_of}
-use Rattle.records.specs.declared.Progress.{Progress}
-use Rattle.records.specs.Run.{run_over}
-use Rattle.records.proofs.Running.{ends}
-use Rattle.ledger.specs.Inner.{book_of}
+use Rattle.std.specs.Prelude.{Some}
+use Rattle.dayfile.specs.Record.{read_at}
+use Rattle.dayfile.proofs.Forward.{further_to}
+use Rattle.records.proofs.Running.{ends, goes_on}
 use Rattle.records.proofs.run.Goals as goal
 
+pub loop-read-smaller : goal.loop-read-smaller
+loop-read-smaller c =
+    omega (arith, further_to c.args.file.now c.loop-read.at c.in-Some.read (sym c.read_record.ensures.record ∙ c.in-Some.is))
+
+-- a record is accepted once at most
+once : (t : Bool) → cond t 1 0 ≤ 1
+once true = omega arith
+once false = omega arith
+
+number : (t : Bool) → bool_byte t ≡ cond t 1 0
+number true = refl
+number false = refl
+
+pub loop-read-preserved : goal.loop-read-preserved
+loop-read-preserved c =
+    let read_is : read_at c.args.file.now c.loop-read.at ≡ Some c.in-Some.read = sym c.read_record.ensures.record ∙ c.in-Some.is in
+    rw (c.from-accepted.ensures, number c.play.result) (goes_on c.loop-read.invariant c.in-Some.read read_is c.play.ensures (once c.play.result))
+
 pub returns : goal.returns
-returns c =
-    let file = c.args.file.now in
-    let at = c.loop-progress.progress.at in
-    let b = c.args.book in
-    c.ended.ensures ∙ ends c.loop-progress.invariant (calls_at_end file at (at_end file at (omega arith)))
-    ∙ ap (λ (r : Progress). run_over (book_of r.figures b.opening b.position b.cost b.volume b.cash) (calls_of file)) c.began-progress.ensures
+returns c = ends c.loop-read.invariant (sym c.read_record.ensures.record ∙ c.in_default.is)

@@ -1,12 +1,11 @@
+-- What is left of the file gets shorter.
 use Prim.Native.Nat.{◌-◌}
-use lib.ListN as lists
+use lib.ListN.{length}
 use Rattle.records.specs.Run.{Running}
-use Rattle.ledger.specs.Inner.{book_of}
 use Rattle.records.proofs.run.Given as goal
 
-abbrev pub invariant-loop-progress : goal.invariant-loop-progress
-invariant-loop-progress l =
-    Running l.file (book_of l.initial.progress.figures l.initial.opening l.initial.position l.initial.cost l.initial.volume l.initial.cash) 0 0 (book_of l.progress.figures l.opening l.position l.cost l.volume l.cash) l.progress.accepted l.progress.at
+abbrev pub invariant-loop-read : goal.invariant-loop-read
+invariant-loop-read l = Running l.file l.initial.book.book l.book.book l.accepted l.at
 
-abbrev pub decreases-loop-progress : goal.decreases-loop-progress
-decreases-loop-progress l = lists.length l.file - l.progress.at
+abbrev pub decreases-loop-read : goal.decreases-loop-read
+decreases-loop-read l = length l.file - l.at
