@@ -1,7 +1,6 @@
 -- A number in decimal, digit by digit. Assumes nothing.
-use Rattle.std.proofs.Common.{rules, arith}
+use Rattle.std.proofs.Common.{sym, rules, arith}
 use Rattle.std.proofs.lemmas.Fmt.{AppendsLastDigit, decimal_from_appends, length-decimal-le}
-use Rattle.std.proofs.Common.{sym}
 use Rattle.text.specs.Text.{decimal_within, DigitByDigit}
 
 appends : AppendsLastDigit decimal_within
