@@ -42,7 +42,7 @@ fn put_account(window: &mut Window, account: usize, position: i64, cash: i64)
 fn is_printed(position: i64, cash: i64) -> bool
     ensures { result ≡ is_printed position cash }
 {
-    (position != 0) | (cash != 0)
+    position != 0 || cash != 0
 }
 
 // The line of an account that is printed, nothing for another.

@@ -1,3 +1,4 @@
 pub mod Placing
 pub mod Lengths
+pub mod Decimal
 pub mod Examples

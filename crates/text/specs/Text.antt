@@ -1,8 +1,8 @@
 -- Text as a list of bytes, and the part of it that a buffer holds.
 use mathlib.Core.{Path.◌≡◌, Bool.cond, List.List, List.[], List.◌∷◌, List.◌++◌}
-use Prim.Native.{Char.code, Nat.ℕ, Nat.◌+◌, Nat.◌-◌, Nat.◌<◌, Nat.◌^◌}
+use Prim.Native.{Char.code, Nat.ℕ, Nat.zero, Nat.suc, Nat.◌+◌, Nat.◌-◌, Nat.◌/◌, Nat.◌%◌, Nat.◌<◌, Nat.◌^◌}
 use Prim.Native.String.{String, [] as none, ◌∷◌ as ◌before◌}
-use lib.{Dec.leb, IntN.ℤ, IntN.pos, IntN.neg_ℤ, ListN.length, ListN.set}
+use lib.{Dec.leb, Dec.ltb, IntN.ℤ, IntN.pos, IntN.neg_ℤ, ListN.length, ListN.set}
 use Rattle.std.specs.Fmt as fmt
 use Rattle.text.specs.declared.Window.{Window}
 
@@ -14,6 +14,15 @@ bytes (c before s) = code c ∷ bytes s
 -- a number in decimal, without zeros before it: what `{}` writes
 abbrev pub decimal : ℕ → List ℕ
 decimal = fmt.decimal
+
+-- the same by this many digits at most, digit by digit
+unfoldable pub decimal_within : ℕ → ℕ → List ℕ
+decimal_within zero n = []
+decimal_within (suc most) n = cond (ltb n 10) [] (decimal_within most (n / 10)) ++ ((48 + n % 10) ∷ [])
+
+-- a number of 64 bits has 20 digits at most: proved in proofs/Decimal.antt
+abbrev pub DigitByDigit : Type 0
+DigitByDigit = (n : ℕ) → n < 2 ^ 64 → decimal n ≡ decimal_within 20 n
 
 -- a minus before a negative one
 abbrev pub signed : ℤ → List ℕ
