@@ -1,21 +1,21 @@
 -- The whole printout of `funding-bench`: from the bytes of its input to the bytes of its text. Document 01, "Reports, file, program".
 use mathlib.Core.{Bool.cond, List.List, List.[], List.◌∷◌, List.◌++◌}
-use Rattle.std.specs.Prelude.{ℕ, ◌+◌}
-use lib.{Dec.eqb, IntN.ℤ, ListN.take, ListN.drop, ListN.get_or}
+use Rattle.std.specs.Prelude.{ℕ, ◌+◌, Option, Some, None}
+use lib.{Dec.eqb, ListN.take, ListN.drop, ListN.get_or}
 use Rattle.text.specs.Text.{bytes}
 use Rattle.lines.specs.Lines.{refused_line, day_line, account_lines}
-use Rattle.columns.specs.Columns.{accounts}
+use Rattle.columns.specs.{declared.Columns.Columns, Columns.accounts}
 use Rattle.ledger.specs.{declared.Book.Book, Step.opening}
 use Rattle.dayfile.specs.{declared.Read.Read, Calls.records_of}
 use Rattle.playing.specs.{declared.Printed.Printed, Printed.AfterRecord, Printed.played_record}
 use Rattle.playing.specs.declared.Printed.TheVariants as printed
 
--- the lines of what is printed, with the columns of positions and cash after it
-abbrev pub text_of : Printed → List ℤ → List ℤ → List ℕ
-text_of printed.Nothing position cash = []
-text_of (printed.Refused number place) position cash = refused_line number place
-text_of (printed.Day day fixing) position cash = day_line day fixing
-text_of printed.Accounts position cash = account_lines accounts position cash
+-- the lines of what is printed, with the columns after it
+abbrev pub text_of : Option Printed → Columns → List ℕ
+text_of None c = []
+text_of (Some (printed.Refused number place)) c = refused_line number place
+text_of (Some (printed.Day day fixing)) c = day_line day fixing
+text_of (Some printed.Accounts) c = account_lines accounts c.position c.cash
 
 -- a text, and the book behind its last line
 pub record Lines : Type 0 where
@@ -24,12 +24,12 @@ pub record Lines : Type 0 where
 
 -- a record's lines before those of the records after it
 abbrev pub before : AfterRecord → Lines → Lines
-before r rest = record { text = text_of r.printed r.book.position r.book.cash ++ rest.text; book = rest.book }
+before r rest = record { text = text_of r.printed r.book.columns ++ rest.text; book = rest.book }
 
 -- the lines of records on a book, counted from this place on
 unfoldable pub after_records : Book → ℕ → List Read → Lines
 after_records b place [] = record { text = []; book = b }
-after_records b place (r ∷ rs) = before (played_record b r place) (after_records (played_record b r place).book (place + 1) rs)
+after_records b place (r ∷ rs) = before (played_record b r.call place) (after_records (played_record b r.call place).book (place + 1) rs)
 
 -- those of all its records, on a fresh book of this size
 abbrev pub lines_of : ℕ → List ℕ → Lines

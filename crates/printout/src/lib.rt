@@ -3,14 +3,12 @@
 
 ghost use Rattle.std.specs.Prelude.{◌≡◌, ◌≤◌, length, drop};
 ghost use Rattle.text.specs.Text.{Puts, over};
-ghost use Rattle.columns.specs.Columns.{accounts};
-ghost use Rattle.ledger.specs.Inner.{WithinLimits};
 ghost use Rattle.dayfile.specs.Calls.{records_of};
 ghost use Rattle.printout.specs.Printout.{most_input, text_of, after_records, printout_of, printout_of_counted, printout};
 
-use columns::ACCOUNTS;
+use columns::Columns;
 use dayfile::read_record;
-use ledger::Book;
+use ledger::checked::CheckedBook;
 use lines::{put_accounts, put_day, put_refused};
 use playing::{Printed, play_record};
 use text::Window;
@@ -19,50 +17,27 @@ use text::Window;
 const MOST_INPUT: usize = 65_536;
 
 // The lines of one record, with the columns after it.
-fn put_printed(
-    window: &mut Window,
-    printed: Printed,
-    position: &[i64; ACCOUNTS],
-    cash: &[i64; ACCOUNTS],
-)
-    ensures { Puts window.old (text_of printed position.now cash.now) window.new }
+fn put_printed(window: &mut Window, printed: Option<Printed>, columns: &Columns)
+    ensures { Puts window.old (text_of printed columns.now) window.new }
 {
     match printed {
-        Printed::Nothing => {}
-        Printed::Refused { number, place } => put_refused(window, number, place),
-        Printed::Day { day, fixing } => put_day(window, day, fixing),
-        Printed::Accounts => put_accounts(window, position, cash),
+        Some(Printed::Refused { number, place }) => put_refused(window, number, place),
+        Some(Printed::Day { day, fixing }) => put_day(window, day, fixing),
+        Some(Printed::Accounts) => put_accounts(window, &columns.position, &columns.cash),
+        None => {}
     }
 }
 
-// The lines of the records of a file, on a book within its limits. The columns stay in place from record to record.
-fn put_records(window: &mut Window, book: Book, file: &[u8])
-    requires { WithinLimits accounts book × (length file.now ≤ most_input) }
-    ensures { Puts window.old (after_records book 1 (records_of file.now)).text window.new }
+// The lines of the records of a file.
+fn put_records(window: &mut Window, book: &mut CheckedBook, file: &[u8])
+    requires { length file.now ≤ most_input }
+    ensures { Puts window.old (after_records book.old.book 1 (records_of file.now)).text window.new }
 {
-    let mut figures = book.figures;
-    let mut opening = book.opening;
-    let mut position = book.position;
-    let mut cost = book.cost;
-    let mut volume = book.volume;
-    let mut cash = book.cash;
     let mut start: usize = 0;
     let mut place: u64 = 1;
     while let Some(read) = read_record(file, start) {
-        let played = play_record(
-            figures,
-            &mut opening,
-            &mut position,
-            &mut cost,
-            &mut volume,
-            &mut cash,
-            read,
-            place,
-        );
-        let after = played.figures;
-        figures = after;
-        let printed = played.printed;
-        put_printed(window, printed, &position, &cash);
+        let printed = play_record(book, read.call, place);
+        put_printed(window, printed, &book.book.columns);
         start = read.next;
         place += 1;
     }
@@ -73,11 +48,9 @@ fn put_printout(window: &mut Window, size: u8, file: &[u8])
     requires { length file.now ≤ most_input }
     ensures { Puts window.old (printout_of size file.now) window.new }
 {
-    let opened = Book::opening(size as u32);
-    if opened.code != 0 {
-        put_refused(window, opened.code, 0);
-    } else {
-        put_records(window, opened.book, file);
+    match CheckedBook::opening(u32::from(size)) {
+        Ok(mut book) => put_records(window, &mut book, file),
+        Err(refusal) => put_refused(window, refusal.number(), 0),
     }
     window.put(b"end\n");
 }
