@@ -10,7 +10,7 @@ use Rattle.calls.specs.declared.Call.{Call}
 use Rattle.dayfile.specs.declared.RecordError.{RecordError}
 use Rattle.dayfile.specs.declared.Read.{Read}
 use Rattle.dayfile.specs.Calls.{called, calls_in, records_of}
-use Rattle.playing.specs.Printed.{played_call}
+use Rattle.playing.specs.Printed.{played_record}
 use Rattle.printout.specs.Printout.{after_records}
 use Rattle.host.specs.Run.{OneRun}
 
@@ -21,7 +21,7 @@ same_book b place [] = refl
 same_book b place (r ∷ rs) = by r.call (λ b. same_book b (place + 1) rs)
   where
     by : (call : Result (Option Call) RecordError) → ((b : Book) → (after_records b (place + 1) rs).book ≡ run accounts b (calls_in rs))
-        → (after_records (played_call b call place).book (place + 1) rs).book ≡ run accounts b (called call (calls_in rs))
+        → (after_records (played_record b call place).book (place + 1) rs).book ≡ run accounts b (called call (calls_in rs))
     by (Ok None) others = others b
     by (Ok (Some c)) others = others (step accounts b c).book
     by (Err e) others = others b

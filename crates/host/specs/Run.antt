@@ -7,7 +7,7 @@ use Rattle.columns.specs.Columns.{accounts, entry}
 use Rattle.ledger.specs.Step.{opening}
 use Rattle.history.specs.{Cash.net, Cash.cash_of, Demand3.history, Demand3.total, Demand3.calls_of_days, Demand3.Whole, History.closings, History.today}
 use Rattle.dayfile.specs.Calls.{calls_of}
-use Rattle.records.specs.{declared.RunEnd.RunEnd, Run.run_over}
+use Rattle.records.specs.Run.{RunEnd, run_over}
 use Rattle.printout.specs.Printout.{lines_of}
 
 -- the run of a fresh book of this size over the calls of a file
@@ -24,10 +24,10 @@ accepted_records size file positions cash = cond (taken size positions cash) (ru
 
 -- 01: "Otherwise the lists report the book where the run ended"
 abbrev pub reported_positions : ℕ → List ℕ → List ℤ → ℕ → List ℤ
-reported_positions size file positions cash = cond (taken size (length positions) cash) (run_file size file).book.position positions
+reported_positions size file positions cash = cond (taken size (length positions) cash) (run_file size file).book.columns.position positions
 
 abbrev pub reported_cash : ℕ → List ℕ → ℕ → List ℤ → List ℤ
-reported_cash size file positions cash = cond (taken size positions (length cash)) (run_file size file).book.cash cash
+reported_cash size file positions cash = cond (taken size positions (length cash)) (run_file size file).book.columns.cash cash
 
 -- demand 3 from bytes: the lists of a run that is taken are the figures of the history of the file's calls, and each sums to zero; the history is its closed
 -- days and the open day put together, and each closed day is whole

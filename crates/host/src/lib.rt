@@ -5,9 +5,7 @@ ghost use Rattle.std.specs.Prelude.{◌≡◌, length};
 ghost use Rattle.host.specs.Run.{accepted_records, reported_positions, reported_cash, FromBytes};
 
 use columns::ACCOUNTS;
-use columns::report::fill;
-use ledger::Book;
-use records::run;
+use ledger::checked::CheckedBook;
 
 // Runs a fresh book of this size over a file, reports it to both lists and answers how many records were accepted. Where the
 // size or a list is refused it answers 0 and leaves both lists as they are.
@@ -21,14 +19,14 @@ pub fn funding_run(size: u8, file: &[u8], positions: &mut [i64], cash: &mut [i64
     ensures history { FromBytes size file.now (length positions.old) (length cash.old)
         result positions.new cash.new }
 {
-    let opened = Book::opening(size as u32);
-    if (opened.code != 0) | (positions.len() != ACCOUNTS) | (cash.len() != ACCOUNTS) {
+    let Ok(mut checked) = CheckedBook::opening(u32::from(size)) else {
+        return 0;
+    };
+    if (positions.len() != ACCOUNTS) | (cash.len() != ACCOUNTS) {
         return 0;
     }
-    let end = run(opened.book, file);
-    let position = end.book.position;
-    fill(positions, &position);
-    let posted = end.book.cash;
-    fill(cash, &posted);
-    end.accepted
+    let accepted = records::run(&mut checked, file);
+    positions.copy_from_slice(&checked.book.columns.position);
+    cash.copy_from_slice(&checked.book.columns.cash);
+    accepted
 }
