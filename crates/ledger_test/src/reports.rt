@@ -1,58 +1,52 @@
 // Reports to lists of the right length and of others.
-use crate::numbers::of_signed;
-use crate::turn::print_code;
-use crate::words::{BLANK, CASH, EQUALS, POSITIONS, UNCHANGED, print_after, print_word};
+use crate::outcome::report;
 use ledger::Book;
-use std::io;
+use std::{fmt, io};
 
 // What the lists hold before.
 const BEFORE: i64 = -777;
-// The longest list.
-const LONGEST: usize = 257;
 
-// The entries that aren't 0; after a refusal those that aren't as before, and that the list is unchanged.
-fn print_list(
-    rt: &impl Print,
-    name: usize,
-    list: &[i64; LONGEST],
-    length: usize,
-    refused: bool,
-) -> io::Result<()> {
-    print_word(rt, name)?;
-    let usual = if refused { BEFORE } else { 0 };
-    for (i, entry) in list.iter().enumerate() {
-        if (i < length) & (*entry != usual) {
-            print_after(rt, BLANK, i as u64)?;
-            print_after(rt, EQUALS, of_signed(*entry))?;
-        }
-    }
-    if refused {
-        print_word(rt, UNCHANGED)?;
-    }
-    Ok(())
+// A list after a report.
+#[derive(Clone, Copy)]
+struct List<'a> {
+    entries: &'a [i64],
+    is_refused: bool,
 }
 
-// A report to two lists of these lengths: its number, and where they are to be shown the lists.
-pub fn report(
-    rt: &impl Print,
-    book: Book,
-    first: usize,
-    second: usize,
-    shown: bool,
-) -> io::Result<()> {
-    let mut positions: [i64; LONGEST] = [BEFORE; LONGEST];
-    let mut cash: [i64; LONGEST] = [BEFORE; LONGEST];
-    if first <= LONGEST {
-        if second <= LONGEST {
-            let code = book.report(&mut positions[..first], &mut cash[..second]);
-            if shown {
-                print_code(rt, code)?;
-                print_list(rt, POSITIONS, &positions, first, code != 0)?;
-                print_list(rt, CASH, &cash, second, code != 0)?;
-            } else {
-                print_after(rt, BLANK, code as u64)?;
+// The entries that aren't 0; after a refusal those that aren't as before, and that the list is unchanged.
+impl fmt::Display for List<'_> {
+    fn fmt<W: fmt::Write>(&self, f: &mut fmt::Formatter<W>) -> fmt::Result {
+        let usual = if self.is_refused { BEFORE } else { 0 };
+        for (i, entry) in self.entries.iter().enumerate() {
+            if *entry != usual {
+                write!(f, " {i}={entry}")?;
             }
         }
+        if self.is_refused {
+            write!(f, " unchanged")?;
+        }
+        Ok(())
     }
-    Ok(())
+}
+
+// A report to two lists of these lengths: its outcome and the lists.
+pub fn print(
+    rt: &(impl Print + AllocGlobal),
+    book: Book,
+    positions: usize,
+    cash: usize,
+) -> io::Result<()> {
+    let mut positions = vec![in rt.alloc(); BEFORE; positions]?;
+    let mut cash = vec![in rt.alloc(); BEFORE; cash]?;
+    let outcome = report(book, &mut positions, &mut cash);
+    let is_refused = outcome.is_refused();
+    let positions = List {
+        entries: &positions,
+        is_refused,
+    };
+    let cash = List {
+        entries: &cash,
+        is_refused,
+    };
+    print!(rt; ": {outcome}; positions{positions}; cash{cash}")
 }

@@ -1,0 +1,132 @@
+// Plays the cases, line by line.
+use crate::book::empty_book;
+use crate::changes::Changes;
+use crate::command::Command;
+use crate::draft::Draft;
+use crate::numbers::Numbers;
+use crate::outcome::{Outcome, answer_to, report};
+use crate::reports;
+use columns::ACCOUNTS;
+use figures::product::Product;
+use ledger::{Answer, Book};
+use std::io;
+
+#[derive(Drop)]
+pub struct Player<'a> {
+    book: Book,
+    // The list of fields by which each case's book is made; without one a case is played on the book after the last case.
+    list: Option<&'a str>,
+}
+
+// Whether refused calls hand the same book back.
+fn sameness(is_same: bool) -> &'static str {
+    if is_same {
+        ", same book"
+    } else {
+        ", BOOK CHANGED"
+    }
+}
+
+fn products(rt: &impl Print) -> io::Result<()> {
+    print!(rt;
+        " of size {} and {}, clamp {}, spread limit {}",
+        Product::hundredth().size,
+        Product::tenth().size,
+        Product::CLAMP,
+        Product::SPREAD
+    )
+}
+
+// The numbers that the calls of a row come to on this book, and whether the refused ones hand the same book back.
+fn row(rt: &impl Print, book: Book) -> io::Result<()> {
+    print!(rt; ":")?;
+    let mut is_same = true;
+    for call in Command::ROW {
+        let answer = answer_to(book, call);
+        let outcome = Outcome::from(&answer);
+        print!(rt; " {}", outcome.number())?;
+        is_same &= !outcome.is_refused() || Changes::new(&book, &answer.book).is_empty();
+    }
+    let reported = report(book, &mut [0; ACCOUNTS], &mut [0; ACCOUNTS]);
+    print!(rt; " {}{}", reported.number(), sameness(is_same))
+}
+
+impl<'a> Player<'a> {
+    pub fn new() -> Self {
+        Self {
+            book: empty_book(),
+            list: None,
+        }
+    }
+
+    pub fn line(&mut self, rt: &(impl Print + AllocGlobal), line: &'a str) -> io::Result<()> {
+        match line.chars().next() {
+            None | Some('#') => {}
+            Some('-') => println!(rt; "{line}")?,
+            Some('|') => self.list = Some(line),
+            Some('>') => {
+                self.list = None;
+                self.make_book(rt, line, "")?;
+            }
+            Some(_) => self.case(rt, line)?,
+        }
+        Ok(())
+    }
+
+    // What stands before a list's first bar is no field.
+    fn make_book(&mut self, rt: &impl Print, list: &str, case: &str) -> io::Result<()> {
+        let mut draft = Draft::new();
+        let mut numbers = Numbers::of(case);
+        for item in list.split('|').skip(1).filter(|item| !item.is_empty()) {
+            if let Err(mistake) = draft.set_named(item, &mut numbers) {
+                print!(rt; "{mistake}")?;
+            }
+        }
+        self.book = draft.book;
+        Ok(())
+    }
+
+    fn case(&mut self, rt: &(impl Print + AllocGlobal), line: &str) -> io::Result<()> {
+        print!(rt; "{line}")?;
+        if let Some(list) = self.list {
+            self.make_book(rt, list, line)?;
+        }
+        let call = line.split_once(": ").map_or(line, |(_, call)| call);
+        match call.parse() {
+            Ok(command) => self.play(rt, command)?,
+            Err(mistake) => print!(rt; "{mistake}")?,
+        }
+        println!(rt)
+    }
+
+    fn play(&mut self, rt: &(impl Print + AllocGlobal), command: Command) -> io::Result<()> {
+        match command {
+            Command::Call(call) => self.take(rt, answer_to(self.book, call)),
+            Command::Opening(size) => self.take(rt, Book::opening(size)),
+            Command::MinuteEnds { index, count } => self.end_minutes(rt, index, count),
+            Command::Report { positions, cash } => reports::print(rt, self.book, positions, cash),
+            Command::Products => products(rt),
+            Command::Row => row(rt, self.book),
+        }
+    }
+
+    // Prints an answer and what it changed in the book, and goes on with its book.
+    fn take(&mut self, rt: &impl Print, answer: Answer) -> io::Result<()> {
+        let outcome = Outcome::from(&answer);
+        let changes = Changes::new(&self.book, &answer.book);
+        print!(rt; ": {outcome}{changes}")?;
+        if outcome.is_refused() {
+            print!(rt; "{}", sameness(changes.is_empty()))?;
+        }
+        self.book = answer.book;
+        Ok(())
+    }
+
+    fn end_minutes(&mut self, rt: &impl Print, index: u32, count: u32) -> io::Result<()> {
+        let before = self.book;
+        for _ in 0..count {
+            self.book = self.book.minute_end(index).book;
+        }
+        print!(rt; "{}", Changes::new(&before, &self.book))
+    }
+}
