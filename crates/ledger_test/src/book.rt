@@ -46,13 +46,12 @@ impl Entry {
     ) -> Result<(), Mistake> {
         let i = usize::from(account);
         match self {
-            Entry::Opening => book.opening[i] = numbers.next()?,
-            Entry::Position => book.position[i] = numbers.next()?,
-            Entry::Cost => book.cost[i] = numbers.next()?,
-            Entry::Volume => book.volume[i] = numbers.next()?,
-            Entry::Cash => book.cash[i] = numbers.next()?,
+            Entry::Opening => numbers.set(&mut book.opening[i]),
+            Entry::Position => numbers.set(&mut book.position[i]),
+            Entry::Cost => numbers.set(&mut book.cost[i]),
+            Entry::Volume => numbers.set(&mut book.volume[i]),
+            Entry::Cash => numbers.set(&mut book.cash[i]),
         }
-        Ok(())
     }
 }
 

@@ -103,25 +103,24 @@ impl Figure {
     pub fn set(self, figures: &mut Figures, numbers: &mut Numbers<'_>) -> Result<(), Mistake> {
         let day = &mut figures.day;
         match self {
-            Figure::Size => figures.size = numbers.next()?,
-            Figure::Closed => figures.closed = numbers.next()?,
-            Figure::Halted => figures.halted = numbers.next::<u32>()? != 0,
-            Figure::PreviousPrice => figures.previous.price = numbers.next()?,
-            Figure::PreviousIndex => figures.previous.index = numbers.next()?,
-            Figure::Minutes => day.minutes.ended = numbers.next()?,
-            Figure::Valid => day.minutes.valid = numbers.next()?,
-            Figure::Weighted => day.minutes.weighted = numbers.next()?,
-            Figure::Market => day.markets.standing = numbers.market()?,
-            Figure::MinuteMarket => day.markets.minute = numbers.market()?,
-            Figure::Last => day.trades.last = numbers.next()?,
-            Figure::Contracts => day.trades.settling.contracts = numbers.next()?,
-            Figure::Gross => day.trades.settling.gross = numbers.next()?,
-            Figure::Index => day.minutes.index = numbers.next()?,
-            Figure::FixedPrice => day.fixed.price = numbers.next()?,
-            Figure::FixedAmount => day.fixed.amount = numbers.next()?,
-            Figure::Length => day.session.length = numbers.next()?,
-            Figure::Begun => day.session.begun = numbers.next::<u32>()? != 0,
+            Figure::Size => numbers.set(&mut figures.size),
+            Figure::Closed => numbers.set(&mut figures.closed),
+            Figure::Halted => numbers.set_flag(&mut figures.halted),
+            Figure::PreviousPrice => numbers.set(&mut figures.previous.price),
+            Figure::PreviousIndex => numbers.set(&mut figures.previous.index),
+            Figure::Minutes => numbers.set(&mut day.minutes.ended),
+            Figure::Valid => numbers.set(&mut day.minutes.valid),
+            Figure::Weighted => numbers.set(&mut day.minutes.weighted),
+            Figure::Market => numbers.set_market(&mut day.markets.standing),
+            Figure::MinuteMarket => numbers.set_market(&mut day.markets.minute),
+            Figure::Last => numbers.set(&mut day.trades.last),
+            Figure::Contracts => numbers.set(&mut day.trades.settling.contracts),
+            Figure::Gross => numbers.set(&mut day.trades.settling.gross),
+            Figure::Index => numbers.set(&mut day.minutes.index),
+            Figure::FixedPrice => numbers.set(&mut day.fixed.price),
+            Figure::FixedAmount => numbers.set(&mut day.fixed.amount),
+            Figure::Length => numbers.set(&mut day.session.length),
+            Figure::Begun => numbers.set_flag(&mut day.session.begun),
         }
-        Ok(())
     }
 }

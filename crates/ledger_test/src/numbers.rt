@@ -50,6 +50,25 @@ impl<'a> Numbers<'a> {
             offer: self.next()?,
         })
     }
+
+    // The next number into a field.
+    pub fn set<T: TryFrom<i128> + Drop>(&mut self, field: &mut T) -> Result<(), Mistake>
+    where
+        T::Error: Drop,
+    {
+        *field = self.next()?;
+        Ok(())
+    }
+
+    pub fn set_flag(&mut self, field: &mut bool) -> Result<(), Mistake> {
+        *field = self.next::<u32>()? != 0;
+        Ok(())
+    }
+
+    pub fn set_market(&mut self, field: &mut Market) -> Result<(), Mistake> {
+        *field = self.market()?;
+        Ok(())
+    }
 }
 
 // What stands before the first number of a text.

@@ -123,10 +123,12 @@ impl<'a> Player<'a> {
     }
 
     fn end_minutes(&mut self, rt: &impl Print, index: u32, count: u32) -> io::Result<()> {
-        let before = self.book;
+        let mut after = self.book;
         for _ in 0..count {
-            self.book = self.book.minute_end(index).book;
+            after = after.minute_end(index).book;
         }
-        print!(rt; "{}", Changes::new(&before, &self.book))
+        print!(rt; "{}", Changes::new(&self.book, &after))?;
+        self.book = after;
+        Ok(())
     }
 }
