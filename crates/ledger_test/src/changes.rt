@@ -28,9 +28,27 @@ impl<'a> Changes<'a> {
         !changed && !(0..=u8::MAX).any(|account| self.account_changed(account))
     }
 
+    fn fmt_figure<W: fmt::Write>(
+        &self,
+        f: &mut fmt::Formatter<W>,
+        figure: Figure,
+        name: &str,
+    ) -> fmt::Result {
+        let after = figure.of(&self.after.figures);
+        if after == figure.of(&self.before.figures) {
+            return Ok(());
+        }
+        match after {
+            Value::Flag(true) => write!(f, "; {name}"),
+            Value::Flag(false) => write!(f, "; not {name}"),
+            Value::Number(number) => write!(f, "; {name} {number}"),
+            Value::Market(bid, offer) => write!(f, "; {name} {bid}/{offer}"),
+        }
+    }
+
     fn fmt_account<W: fmt::Write>(&self, f: &mut fmt::Formatter<W>, account: u8) -> fmt::Result {
         write!(f, "; account {account}")?;
-        for (entry, name) in Entry::NAMED {
+        for (entry, name) in &Entry::NAMED {
             let after = entry.of(self.after, account);
             if after != entry.of(self.before, account) {
                 write!(f, " {name} {after}")?;
@@ -43,15 +61,8 @@ impl<'a> Changes<'a> {
 // Each number that differs, with its value in the second book.
 impl fmt::Display for Changes<'_> {
     fn fmt<W: fmt::Write>(&self, f: &mut fmt::Formatter<W>) -> fmt::Result {
-        for (figure, name) in Figure::NAMED {
-            let after = figure.of(&self.after.figures);
-            if after != figure.of(&self.before.figures) {
-                match after {
-                    Value::Flag(true) => write!(f, "; {name}")?,
-                    Value::Flag(false) => write!(f, "; not {name}")?,
-                    value => write!(f, "; {name} {value}")?,
-                }
-            }
+        for (figure, name) in &Figure::NAMED {
+            self.fmt_figure(f, *figure, name)?;
         }
         for account in 0..=u8::MAX {
             if self.account_changed(account) {

@@ -20,19 +20,21 @@ enum Field {
     ValidMinutes,
 }
 
+// What a list of names has under this one.
+fn named<T: Copy>(names: &[(T, &'static str)], text: &str) -> Option<T> {
+    let (item, _) = names.iter().find(|(_, name)| *name == text)?;
+    Some(*item)
+}
+
 impl FromStr for Field {
     type Err = Mistake;
 
     fn from_str(text: &str) -> Result<Self, Mistake> {
-        for (figure, name) in Figure::NAMED {
-            if name == text {
-                return Ok(Field::Figure(figure));
-            }
+        if let Some(figure) = named(&Figure::NAMED, text) {
+            return Ok(Field::Figure(figure));
         }
-        for (entry, name) in Entry::NAMED {
-            if name == text {
-                return Ok(Field::Entry(entry));
-            }
+        if let Some(entry) = named(&Entry::NAMED, text) {
+            return Ok(Field::Entry(entry));
         }
         match text {
             "account" => Ok(Field::Account),

@@ -39,7 +39,7 @@ fn products(rt: &impl Print) -> io::Result<()> {
 
 // The numbers that the calls of a row come to on this book, and whether the refused ones hand the same book back.
 fn row(rt: &impl Print, book: Book) -> io::Result<()> {
-    print!(rt; ":")?;
+    rt.print(":")?;
     let mut is_same = true;
     for call in Command::ROW {
         let answer = answer_to(book, call);
@@ -62,7 +62,7 @@ impl<'a> Player<'a> {
     pub fn line(&mut self, rt: &(impl Print + AllocGlobal), line: &'a str) -> io::Result<()> {
         match line.chars().next() {
             None | Some('#') => {}
-            Some('-') => println!(rt; "{line}")?,
+            Some('-') => rt.println(line)?,
             Some('|') => self.list = Some(line),
             Some('>') => {
                 self.list = None;
@@ -79,7 +79,7 @@ impl<'a> Player<'a> {
         let mut numbers = Numbers::of(case);
         for item in list.split('|').skip(1).filter(|item| !item.is_empty()) {
             if let Err(mistake) = draft.set_named(item, &mut numbers) {
-                print!(rt; "{mistake}")?;
+                rt.print(mistake)?;
             }
         }
         self.book = draft.book;
@@ -87,14 +87,14 @@ impl<'a> Player<'a> {
     }
 
     fn case(&mut self, rt: &(impl Print + AllocGlobal), line: &str) -> io::Result<()> {
-        print!(rt; "{line}")?;
+        rt.print(line)?;
         if let Some(list) = self.list {
             self.make_book(rt, list, line)?;
         }
         let call = line.split_once(": ").map_or(line, |(_, call)| call);
         match call.parse() {
             Ok(command) => self.play(rt, command)?,
-            Err(mistake) => print!(rt; "{mistake}")?,
+            Err(mistake) => rt.print(mistake)?,
         }
         println!(rt)
     }
@@ -116,7 +116,7 @@ impl<'a> Player<'a> {
         let changes = Changes::new(&self.book, &answer.book);
         print!(rt; ": {outcome}{changes}")?;
         if outcome.is_refused() {
-            print!(rt; "{}", sameness(changes.is_empty()))?;
+            rt.print(sameness(changes.is_empty()))?;
         }
         self.book = answer.book;
         Ok(())
@@ -127,7 +127,7 @@ impl<'a> Player<'a> {
         for _ in 0..count {
             after = after.minute_end(index).book;
         }
-        print!(rt; "{}", Changes::new(&self.book, &after))?;
+        rt.print(Changes::new(&self.book, &after))?;
         self.book = after;
         Ok(())
     }
