@@ -2,73 +2,68 @@
 use crate::book::Entry;
 use crate::figure::{Figure, Value};
 use ledger::Book;
-use std::fmt;
+use std::alloc::{AllocError, Global};
+use std::{fmt, io};
 
+// A number that differs, by its name and its value in the second book.
 #[derive(Clone, Copy)]
-pub struct Changes<'a> {
-    before: &'a Book,
-    after: &'a Book,
+pub enum Change {
+    Figure(&'static str, Value),
+    // the account of the entries that follow
+    Account(u8),
+    Entry(&'static str, i64),
 }
 
-impl<'a> Changes<'a> {
-    pub fn new(before: &'a Book, after: &'a Book) -> Self {
-        Self { before, after }
-    }
-
-    fn account_changed(&self, account: u8) -> bool {
-        Entry::NAMED.iter().any(|(entry, _)| entry.of(self.before, account)
-            != entry.of(self.after, account))
-    }
-
-    pub fn is_empty(&self) -> bool {
-        let figures = (&self.before.figures, &self.after.figures);
-        let changed = Figure::NAMED
-            .iter()
-            .any(|(figure, _)| figure.of(figures.0) != figure.of(figures.1));
-        !changed && !(0..=u8::MAX).any(|account| self.account_changed(account))
-    }
-
-    fn fmt_figure<W: fmt::Write>(
-        &self,
-        f: &mut fmt::Formatter<W>,
-        figure: Figure,
-        name: &str,
-    ) -> fmt::Result {
-        let after = figure.of(&self.after.figures);
-        if after == figure.of(&self.before.figures) {
-            return Ok(());
-        }
-        match after {
-            Value::Flag(true) => write!(f, "; {name}"),
-            Value::Flag(false) => write!(f, "; not {name}"),
-            Value::Number(number) => write!(f, "; {name} {number}"),
-            Value::Market(bid, offer) => write!(f, "; {name} {bid}/{offer}"),
-        }
-    }
-
-    fn fmt_account<W: fmt::Write>(&self, f: &mut fmt::Formatter<W>, account: u8) -> fmt::Result {
-        write!(f, "; account {account}")?;
-        for (entry, name) in &Entry::NAMED {
-            let after = entry.of(self.after, account);
-            if after != entry.of(self.before, account) {
-                write!(f, " {name} {after}")?;
-            }
-        }
-        Ok(())
-    }
-}
-
-// Each number that differs, with its value in the second book.
-impl fmt::Display for Changes<'_> {
+impl fmt::Display for Change {
     fn fmt<W: fmt::Write>(&self, f: &mut fmt::Formatter<W>) -> fmt::Result {
-        for (figure, name) in &Figure::NAMED {
-            self.fmt_figure(f, *figure, name)?;
+        match self {
+            Change::Figure(name, Value::Flag(true)) => write!(f, "; {name}"),
+            Change::Figure(name, Value::Flag(false)) => write!(f, "; not {name}"),
+            Change::Figure(name, Value::Number(number)) => write!(f, "; {name} {number}"),
+            Change::Figure(name, Value::Market(bid, offer)) => write!(f, "; {name} {bid}/{offer}"),
+            Change::Account(account) => write!(f, "; account {account}"),
+            Change::Entry(name, number) => write!(f, " {name} {number}"),
         }
-        for account in 0..=u8::MAX {
-            if self.account_changed(account) {
-                self.fmt_account(f, account)?;
-            }
-        }
-        Ok(())
     }
+}
+
+fn push_account(
+    changes: &mut Vec<Change>,
+    account: u8,
+    before: &Book,
+    after: &Book,
+) -> Result<(), AllocError> {
+    let mut is_named = false;
+    for (entry, name) in &Entry::NAMED {
+        let value = entry.of(after, account);
+        if value != entry.of(before, account) {
+            if !is_named {
+                changes.push(Change::Account(account))?;
+                is_named = true;
+            }
+            changes.push(Change::Entry(name, value))?;
+        }
+    }
+    Ok(())
+}
+
+pub fn changes(alloc: Global, before: &Book, after: &Book) -> Result<Vec<Change>, AllocError> {
+    let mut changes = Vec::new(alloc);
+    for (figure, name) in &Figure::NAMED {
+        let value = figure.of(&after.figures);
+        if value != figure.of(&before.figures) {
+            changes.push(Change::Figure(name, value))?;
+        }
+    }
+    for account in 0..=u8::MAX {
+        push_account(&mut changes, account, before, after)?;
+    }
+    Ok(changes)
+}
+
+pub fn print(rt: &impl Print, changes: &[Change]) -> io::Result<()> {
+    for change in changes {
+        rt.print(change)?;
+    }
+    Ok(())
 }

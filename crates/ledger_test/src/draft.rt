@@ -22,8 +22,12 @@ enum Field {
 
 // What a list of names has under this one.
 fn named<T: Copy>(names: &[(T, &'static str)], text: &str) -> Option<T> {
-    let (item, _) = names.iter().find(|(_, name)| *name == text)?;
-    Some(*item)
+    for (item, name) in names {
+        if *name == text {
+            return Some(*item);
+        }
+    }
+    None
 }
 
 impl FromStr for Field {

@@ -41,7 +41,7 @@ impl<'a> Numbers<'a> {
             .words
             .find_map(|word| word.parse().ok())
             .ok_or(Mistake::NoNumber)?;
-        T::try_from(number).map_err(|_| Mistake::NoNumber)
+        T::try_from(number).ok().ok_or(Mistake::NoNumber)
     }
 
     pub fn market(&mut self) -> Result<Market, Mistake> {

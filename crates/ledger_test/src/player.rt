@@ -1,6 +1,6 @@
 // Plays the cases, line by line.
 use crate::book::empty_book;
-use crate::changes::Changes;
+use crate::changes::{self, changes};
 use crate::command::Command;
 use crate::draft::Draft;
 use crate::numbers::Numbers;
@@ -38,14 +38,15 @@ fn products(rt: &impl Print) -> io::Result<()> {
 }
 
 // The numbers that the calls of a row come to on this book, and whether the refused ones hand the same book back.
-fn row(rt: &impl Print, book: Book) -> io::Result<()> {
+fn row(rt: &(impl Print + AllocGlobal), book: Book) -> io::Result<()> {
     rt.print(":")?;
     let mut is_same = true;
     for call in Command::ROW {
         let answer = answer_to(book, call);
         let outcome = Outcome::from(&answer);
         print!(rt; " {}", outcome.number())?;
-        is_same &= !outcome.is_refused() || Changes::new(&book, &answer.book).is_empty();
+        let changes = changes(rt.alloc(), &book, &answer.book)?;
+        is_same &= !outcome.is_refused() || changes.is_empty();
     }
     let reported = report(book, &mut [0; ACCOUNTS], &mut [0; ACCOUNTS]);
     print!(rt; " {}{}", reported.number(), sameness(is_same))
@@ -60,24 +61,23 @@ impl<'a> Player<'a> {
     }
 
     pub fn line(&mut self, rt: &(impl Print + AllocGlobal), line: &'a str) -> io::Result<()> {
-        match line.chars().next() {
-            None | Some('#') => {}
-            Some('-') => rt.println(line)?,
-            Some('|') => self.list = Some(line),
-            Some('>') => {
-                self.list = None;
-                self.make_book(rt, line, "")?;
-            }
-            Some(_) => self.case(rt, line)?,
+        if let Some(list) = line.strip_prefix('|') {
+            self.list = Some(list);
+        } else if let Some(list) = line.strip_prefix(">|") {
+            self.list = None;
+            self.make_book(rt, list, "")?;
+        } else if line.starts_with('-') {
+            rt.println(line)?;
+        } else if !line.is_empty() && !line.starts_with('#') {
+            self.case(rt, line)?;
         }
         Ok(())
     }
 
-    // What stands before a list's first bar is no field.
     fn make_book(&mut self, rt: &impl Print, list: &str, case: &str) -> io::Result<()> {
         let mut draft = Draft::new();
         let mut numbers = Numbers::of(case);
-        for item in list.split('|').skip(1).filter(|item| !item.is_empty()) {
+        for item in list.split_terminator('|') {
             if let Err(mistake) = draft.set_named(item, &mut numbers) {
                 rt.print(mistake)?;
             }
@@ -91,7 +91,10 @@ impl<'a> Player<'a> {
         if let Some(list) = self.list {
             self.make_book(rt, list, line)?;
         }
-        let call = line.split_once(": ").map_or(line, |(_, call)| call);
+        let call = match line.split_once(": ") {
+            Some((_, call)) => call,
+            None => line,
+        };
         match call.parse() {
             Ok(command) => self.play(rt, command)?,
             Err(mistake) => rt.print(mistake)?,
@@ -111,10 +114,11 @@ impl<'a> Player<'a> {
     }
 
     // Prints an answer and what it changed in the book, and goes on with its book.
-    fn take(&mut self, rt: &impl Print, answer: Answer) -> io::Result<()> {
+    fn take(&mut self, rt: &(impl Print + AllocGlobal), answer: Answer) -> io::Result<()> {
         let outcome = Outcome::from(&answer);
-        let changes = Changes::new(&self.book, &answer.book);
-        print!(rt; ": {outcome}{changes}")?;
+        let changes = changes(rt.alloc(), &self.book, &answer.book)?;
+        print!(rt; ": {outcome}")?;
+        changes::print(rt, &changes)?;
         if outcome.is_refused() {
             rt.print(sameness(changes.is_empty()))?;
         }
@@ -122,12 +126,17 @@ impl<'a> Player<'a> {
         Ok(())
     }
 
-    fn end_minutes(&mut self, rt: &impl Print, index: u32, count: u32) -> io::Result<()> {
+    fn end_minutes(
+        &mut self,
+        rt: &(impl Print + AllocGlobal),
+        index: u32,
+        count: u32,
+    ) -> io::Result<()> {
         let mut after = self.book;
         for _ in 0..count {
             after = after.minute_end(index).book;
         }
-        rt.print(Changes::new(&self.book, &after))?;
+        changes::print(rt, &changes(rt.alloc(), &self.book, &after)?)?;
         self.book = after;
         Ok(())
     }
