@@ -47,7 +47,7 @@ fn push_account(
     Ok(())
 }
 
-pub fn changes(alloc: Global, before: &Book, after: &Book) -> Result<Vec<Change>, AllocError> {
+pub fn between(alloc: Global, before: &Book, after: &Book) -> Result<Vec<Change>, AllocError> {
     let mut changes = Vec::new(alloc);
     for (figure, name) in &Figure::NAMED {
         let value = figure.of(&after.figures);

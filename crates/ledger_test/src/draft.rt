@@ -20,9 +20,9 @@ enum Field {
     ValidMinutes,
 }
 
-// What a list of names has under this one.
-fn named<T: Copy>(names: &[(T, &'static str)], text: &str) -> Option<T> {
-    for (item, name) in names {
+// The one that has this name.
+fn find_named<T: Copy>(named: &[(T, &'static str)], text: &str) -> Option<T> {
+    for (item, name) in named {
         if *name == text {
             return Some(*item);
         }
@@ -34,10 +34,10 @@ impl FromStr for Field {
     type Err = Mistake;
 
     fn from_str(text: &str) -> Result<Self, Mistake> {
-        if let Some(figure) = named(&Figure::NAMED, text) {
+        if let Some(figure) = find_named(&Figure::NAMED, text) {
             return Ok(Field::Figure(figure));
         }
-        if let Some(entry) = named(&Entry::NAMED, text) {
+        if let Some(entry) = find_named(&Entry::NAMED, text) {
             return Ok(Field::Entry(entry));
         }
         match text {
@@ -66,19 +66,20 @@ impl Draft {
     }
 
     fn set(&mut self, field: Field, numbers: &mut Numbers<'_>) -> Result<(), Mistake> {
-        let day = &mut self.book.figures.day;
         match field {
             Field::Figure(figure) => figure.set(&mut self.book.figures, numbers)?,
             Field::Entry(entry) => entry.set(&mut self.book, self.account, numbers)?,
             Field::Account => self.account = numbers.next()?,
             Field::Opened => self.book = Book::opening(numbers.next()?).book,
             Field::BothMarkets => {
-                day.markets.standing = numbers.market()?;
-                day.markets.minute = day.markets.standing;
+                let markets = &mut self.book.figures.day.markets;
+                markets.standing = numbers.market()?;
+                markets.minute = markets.standing;
             }
             Field::ValidMinutes => {
-                day.minutes.ended = numbers.next()?;
-                day.minutes.valid = day.minutes.ended;
+                let minutes = &mut self.book.figures.day.minutes;
+                minutes.ended = numbers.next()?;
+                minutes.valid = minutes.ended;
             }
         }
         Ok(())

@@ -1,11 +1,10 @@
 // Plays the cases, line by line.
 use crate::book::empty_book;
-use crate::changes::{self, changes};
 use crate::command::Command;
 use crate::draft::Draft;
 use crate::numbers::Numbers;
 use crate::outcome::{Outcome, answer_to, report};
-use crate::reports;
+use crate::{changes, reports};
 use columns::ACCOUNTS;
 use figures::product::Product;
 use ledger::{Answer, Book};
@@ -45,7 +44,7 @@ fn row(rt: &(impl Print + AllocGlobal), book: Book) -> io::Result<()> {
         let answer = answer_to(book, call);
         let outcome = Outcome::from(&answer);
         print!(rt; " {}", outcome.number())?;
-        let changes = changes(rt.alloc(), &book, &answer.book)?;
+        let changes = changes::between(rt.alloc(), &book, &answer.book)?;
         is_same &= !outcome.is_refused() || changes.is_empty();
     }
     let reported = report(book, &mut [0; ACCOUNTS], &mut [0; ACCOUNTS]);
@@ -116,7 +115,7 @@ impl<'a> Player<'a> {
     // Prints an answer and what it changed in the book, and goes on with its book.
     fn take(&mut self, rt: &(impl Print + AllocGlobal), answer: Answer) -> io::Result<()> {
         let outcome = Outcome::from(&answer);
-        let changes = changes(rt.alloc(), &self.book, &answer.book)?;
+        let changes = changes::between(rt.alloc(), &self.book, &answer.book)?;
         print!(rt; ": {outcome}")?;
         changes::print(rt, &changes)?;
         if outcome.is_refused() {
@@ -136,7 +135,7 @@ impl<'a> Player<'a> {
         for _ in 0..count {
             after = after.minute_end(index).book;
         }
-        changes::print(rt, &changes(rt.alloc(), &self.book, &after)?)?;
+        changes::print(rt, &changes::between(rt.alloc(), &self.book, &after)?)?;
         self.book = after;
         Ok(())
     }
