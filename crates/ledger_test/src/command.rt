@@ -48,36 +48,42 @@ fn trade(numbers: &mut Numbers<'_>) -> Result<Trade, Mistake> {
     })
 }
 
+// The call of this name.
+fn call(name: &str, numbers: &mut Numbers<'_>) -> Result<Option<Call>, Mistake> {
+    Ok(Some(match name {
+        "quote" => Call::Quote(numbers.market()?),
+        "trade" => Call::Trade(trade(numbers)?),
+        "halt" => Call::Halt,
+        "resume" => Call::Resume,
+        "minute end" => Call::MinuteEnd(numbers.next()?),
+        "fix" => Call::Fix(numbers.next()?),
+        "close" => Call::Close,
+        "day length" => Call::DayLength(numbers.next()?),
+        _ => return Ok(None),
+    }))
+}
+
 impl FromStr for Command {
     type Err = Mistake;
 
     fn from_str(text: &str) -> Result<Self, Mistake> {
+        let name = name_of(text);
         let mut numbers = Numbers::of(text);
-        let call = match name_of(text) {
-            "quote" => Call::Quote(numbers.market()?),
-            "trade" => Call::Trade(trade(&mut numbers)?),
-            "halt" => Call::Halt,
-            "resume" => Call::Resume,
-            "minute end" => Call::MinuteEnd(numbers.next()?),
-            "fix" => Call::Fix(numbers.next()?),
-            "close" => Call::Close,
-            "day length" => Call::DayLength(numbers.next()?),
-            "opening" => return Ok(Command::Opening(numbers.next()?)),
-            "minute ends of" => {
-                return Ok(Command::MinuteEnds {
-                    index: numbers.next()?,
-                    count: numbers.next()?,
-                });
-            }
-            "report to" => {
-                return Ok(Command::Report {
-                    positions: numbers.next()?,
-                    cash: numbers.next()?,
-                });
-            }
-            "products" => return Ok(Command::Products),
-            _ => return Ok(Command::Row),
-        };
-        Ok(Command::Call(call))
+        if let Some(call) = call(name, &mut numbers)? {
+            return Ok(Command::Call(call));
+        }
+        Ok(match name {
+            "opening" => Command::Opening(numbers.next()?),
+            "minute ends of" => Command::MinuteEnds {
+                index: numbers.next()?,
+                count: numbers.next()?,
+            },
+            "report to" => Command::Report {
+                positions: numbers.next()?,
+                cash: numbers.next()?,
+            },
+            "products" => Command::Products,
+            _ => Command::Row,
+        })
     }
 }

@@ -3,6 +3,7 @@
 use crate::book::{Entry, empty_book};
 use crate::figure::Figure;
 use crate::numbers::{Mistake, Numbers, name_of};
+use day::Markets;
 use ledger::Book;
 use std::str::FromStr;
 
@@ -67,22 +68,28 @@ impl Draft {
 
     fn set(&mut self, field: Field, numbers: &mut Numbers<'_>) -> Result<(), Mistake> {
         match field {
-            Field::Figure(figure) => figure.set(&mut self.book.figures, numbers)?,
-            Field::Entry(entry) => entry.set(&mut self.book, self.account, numbers)?,
-            Field::Account => self.account = numbers.next()?,
-            Field::Opened => self.book = Book::opening(numbers.next()?).book,
+            Field::Figure(figure) => figure.set(&mut self.book.figures, numbers),
+            Field::Entry(entry) => entry.set(&mut self.book, self.account, numbers),
+            Field::Account => numbers.set(&mut self.account),
+            Field::Opened => {
+                self.book = Book::opening(numbers.next()?).book;
+                Ok(())
+            }
             Field::BothMarkets => {
-                let markets = &mut self.book.figures.day.markets;
-                markets.standing = numbers.market()?;
-                markets.minute = markets.standing;
+                let market = numbers.market()?;
+                self.book.figures.day.markets = Markets {
+                    standing: market,
+                    minute: market,
+                };
+                Ok(())
             }
             Field::ValidMinutes => {
-                let minutes = &mut self.book.figures.day.minutes;
-                minutes.ended = numbers.next()?;
-                minutes.valid = minutes.ended;
+                let minutes = numbers.next()?;
+                self.book.figures.day.minutes.ended = minutes;
+                self.book.figures.day.minutes.valid = minutes;
+                Ok(())
             }
         }
-        Ok(())
     }
 
     // Sets the field that a list names, by the number there or the next of the case.

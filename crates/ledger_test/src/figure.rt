@@ -88,25 +88,26 @@ impl Figure {
     }
 
     pub fn set(self, figures: &mut Figures, numbers: &mut Numbers<'_>) -> Result<(), Mistake> {
+        let day = &mut figures.day;
         match self {
             Figure::Size => numbers.set(&mut figures.size),
             Figure::Closed => numbers.set(&mut figures.closed),
             Figure::Halted => numbers.set_flag(&mut figures.halted),
             Figure::PreviousPrice => numbers.set(&mut figures.previous.price),
             Figure::PreviousIndex => numbers.set(&mut figures.previous.index),
-            Figure::Minutes => numbers.set(&mut figures.day.minutes.ended),
-            Figure::Valid => numbers.set(&mut figures.day.minutes.valid),
-            Figure::Weighted => numbers.set(&mut figures.day.minutes.weighted),
-            Figure::Market => numbers.set_market(&mut figures.day.markets.standing),
-            Figure::MinuteMarket => numbers.set_market(&mut figures.day.markets.minute),
-            Figure::Last => numbers.set(&mut figures.day.trades.last),
-            Figure::Contracts => numbers.set(&mut figures.day.trades.settling.contracts),
-            Figure::Gross => numbers.set(&mut figures.day.trades.settling.gross),
-            Figure::Index => numbers.set(&mut figures.day.minutes.index),
-            Figure::FixedPrice => numbers.set(&mut figures.day.fixed.price),
-            Figure::FixedAmount => numbers.set(&mut figures.day.fixed.amount),
-            Figure::Length => numbers.set(&mut figures.day.session.length),
-            Figure::Begun => numbers.set_flag(&mut figures.day.session.begun),
+            Figure::Minutes => numbers.set(&mut day.minutes.ended),
+            Figure::Valid => numbers.set(&mut day.minutes.valid),
+            Figure::Weighted => numbers.set(&mut day.minutes.weighted),
+            Figure::Market => numbers.set_market(&mut day.markets.standing),
+            Figure::MinuteMarket => numbers.set_market(&mut day.markets.minute),
+            Figure::Last => numbers.set(&mut day.trades.last),
+            Figure::Contracts => numbers.set(&mut day.trades.settling.contracts),
+            Figure::Gross => numbers.set(&mut day.trades.settling.gross),
+            Figure::Index => numbers.set(&mut day.minutes.index),
+            Figure::FixedPrice => numbers.set(&mut day.fixed.price),
+            Figure::FixedAmount => numbers.set(&mut day.fixed.amount),
+            Figure::Length => numbers.set(&mut day.session.length),
+            Figure::Begun => numbers.set_flag(&mut day.session.begun),
         }
     }
 }
