@@ -2,47 +2,24 @@
 // which says how they are written; the stored printout is worked out by hand from documents 01 and 02.
 #![tactic(auto)]
 
-ghost use Rattle.std.specs.Prelude.{◌≤◌, length, IfOk};
-
-mod books;
+mod book;
 mod changes;
-mod fields;
-mod making;
-mod named_calls;
+mod command;
+mod draft;
+mod figure;
 mod numbers;
-mod print;
+mod outcome;
+mod player;
 mod reports;
-mod script;
-mod turn;
-mod words;
 
+use player::Player;
 use std::io;
-use std::io::Read;
-
-// The bytes of the cases that are read.
-const MOST_INPUT: usize = 65_536;
-
-// Reads until the buffer is full or the reader has no more, and answers how many bytes it read.
-fn read_full<R: Read>(reader: &mut R, buffer: &mut [u8]) -> io::Result<usize>
-    ensures { IfOk result (λ n. n ≤ length buffer.new) }
-{
-    let mut at: usize = 0;
-    while at < buffer.len() {
-        let n = reader.read(&mut buffer[at..])?;
-        if n == 0 {
-            return Ok(at);
-        }
-        at += n;
-    }
-    Ok(at)
-}
 
 fn main(rt: HostRuntime) -> io::Result<()> {
-    let mut input = [0u8; MOST_INPUT];
-    let length = read_full(&mut rt.stdin(), &mut input)?;
-    script::run(&rt, &input[..length])?;
-    if length == MOST_INPUT {
-        print::text(&rt, b"the cases are cut off\n")?;
+    let cases = io::read_to_string(rt.alloc(), rt.stdin())?;
+    let mut player = Player::new();
+    for line in cases.lines() {
+        player.line(&rt, line)?;
     }
     Ok(())
 }

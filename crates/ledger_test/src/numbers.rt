@@ -1,145 +1,80 @@
-// The numbers of a text. Each is 64 bits: a negative number is what 2^64 leaves of its size, and a market, as 200100/200300,
-// is its bid times 2^32 and its offer.
+// The numbers of a text and the name before them.
+use funding::market::Market;
+use std::fmt;
+use std::str::Split;
 
-// 2^32
-pub const HALF: u64 = 4_294_967_296;
-
-// The first five numbers of a text.
+// Why a list of fields or a call can't be read.
 #[derive(Clone, Copy)]
-pub struct Numbers {
-    pub first: u64,
-    pub second: u64,
-    pub third: u64,
-    pub fourth: u64,
-    pub fifth: u64,
-    pub count: u32,
+pub enum Mistake {
+    NoSuchField,
+    // none is left, or it is outside its field's type
+    NoNumber,
 }
 
-// A text that is being read.
-#[derive(Clone, Copy)]
-pub struct Reading {
-    pub numbers: Numbers,
-    // Where what stands before the first number ends, without the blank after it.
-    pub name: usize,
-    // Where what follows a colon begins.
-    pub call: usize,
-    // The number that is being read: whether it has begun, its digits up to here, the bid before them, its sign.
-    begun: bool,
-    digits: u64,
-    bid: u64,
-    negative: bool,
+impl fmt::Display for Mistake {
+    fn fmt<W: fmt::Write>(&self, f: &mut fmt::Formatter<W>) -> fmt::Result {
+        f.write_str(match self {
+            Mistake::NoSuchField => "NO SUCH FIELD: ",
+            Mistake::NoNumber => "NO NUMBER: ",
+        })
+    }
 }
 
-pub fn of_signed(x: i64) -> u64 {
-    x.cast_unsigned()
+// The numbers of a text that are left. A market, as 200100/200300, is two of them.
+#[derive(Drop)]
+pub struct Numbers<'a> {
+    words: Split<'a, [char; 4]>,
 }
 
-pub fn as_signed(n: u64) -> i64 {
-    n.cast_signed()
-}
-
-impl Numbers {
-    pub fn none() -> Self {
+impl<'a> Numbers<'a> {
+    pub fn of(text: &'a str) -> Self {
         Self {
-            first: 0,
-            second: 0,
-            third: 0,
-            fourth: 0,
-            fifth: 0,
-            count: 0,
+            words: text.split([' ', ',', ':', '/']),
         }
     }
 
-    pub fn at(self, place: u32) -> u64 {
-        match place {
-            0 => self.first,
-            1 => self.second,
-            2 => self.third,
-            3 => self.fourth,
-            _ => self.fifth,
-        }
+    pub fn next<T: TryFrom<i128>>(&mut self) -> Result<T, Mistake>
+    where
+        T::Error: Drop,
+    {
+        let number: i128 = self
+            .words
+            .find_map(|word| word.parse().ok())
+            .ok_or(Mistake::NoNumber)?;
+        T::try_from(number).ok().ok_or(Mistake::NoNumber)
     }
 
-    fn with(mut self, n: u64) -> Self {
-        let count = self.count;
-        if count < 5 {
-            self.count = count + 1;
-        }
-        match count {
-            0 => self.first = n,
-            1 => self.second = n,
-            2 => self.third = n,
-            3 => self.fourth = n,
-            4 => self.fifth = n,
-            _ => {}
-        }
-        self
+    pub fn market(&mut self) -> Result<Market, Mistake> {
+        Ok(Market {
+            bid: self.next()?,
+            offer: self.next()?,
+        })
+    }
+
+    // The next number into a field.
+    pub fn set<T: TryFrom<i128> + Drop>(&mut self, field: &mut T) -> Result<(), Mistake>
+    where
+        T::Error: Drop,
+    {
+        *field = self.next()?;
+        Ok(())
+    }
+
+    pub fn set_flag(&mut self, field: &mut bool) -> Result<(), Mistake> {
+        *field = self.next::<u32>()? != 0;
+        Ok(())
+    }
+
+    pub fn set_market(&mut self, field: &mut Market) -> Result<(), Mistake> {
+        *field = self.market()?;
+        Ok(())
     }
 }
 
-impl Reading {
-    // At the end of a number, if one had begun.
-    fn ended(mut self, i: usize) -> Self {
-        let numbers = self.numbers;
-        let n = self.bid.wrapping_add(self.digits);
-        if self.begun {
-            if self.negative {
-                self.numbers = numbers.with(0u64.wrapping_sub(n));
-            } else {
-                self.numbers = numbers.with(n);
-            }
-        } else {
-            if numbers.count == 0 {
-                self.name = i;
-            }
-        }
-        self.begun = false;
-        self.digits = 0;
-        self.bid = 0;
-        self.negative = false;
-        self
+// What stands before the first number of a text.
+pub fn name_of(text: &str) -> &str {
+    match text.split_once(|c: char| c.is_ascii_digit() || c == '-') {
+        Some((name, _)) => name.trim_end(),
+        None => text,
     }
-
-    // After the byte at this place. The remainder keeps the product with 10 within 64 bits.
-    fn after(mut self, byte: u8, i: usize) -> Self {
-        let digits = self.digits;
-        match byte {
-            b'0'..=b'9' => {
-                let digit = (byte - b'0') as u64;
-                self.begun = true;
-                self.digits = (digits % 1_844_674_407_370_955_162 * 10).wrapping_add(digit);
-                self
-            }
-            b'/' => {
-                self.bid = digits % HALF * HALF;
-                self.digits = 0;
-                self
-            }
-            b'-' => {
-                self.negative = true;
-                self
-            }
-            b':' => {
-                self.call = i.wrapping_add(2);
-                self.ended(i)
-            }
-            _ => self.ended(i),
-        }
-    }
-}
-
-pub fn reading_of(s: &[u8]) -> Reading {
-    let mut reading = Reading {
-        numbers: Numbers::none(),
-        name: 0,
-        call: 0,
-        begun: false,
-        digits: 0,
-        bid: 0,
-        negative: false,
-    };
-    for (i, byte) in s.iter().enumerate() {
-        reading = reading.after(*byte, i);
-    }
-    reading.ended(s.len())
 }

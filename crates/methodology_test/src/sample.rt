@@ -4,8 +4,8 @@ ghost use Rattle.prices.specs.Price.{is_price};
 ghost use Rattle.funding.specs.Terms.{standard_terms};
 ghost use Rattle.funding.specs.Minute.{within_spread, futures_price};
 
-use calls::Market;
 use figures::product::Product;
+use funding::market::Market;
 use std::fmt;
 use std::fmt::{Display, Formatter};
 
@@ -41,9 +41,8 @@ impl Sample {
         ensures value { IfSome result (λ price. price ≡ futures_price self.market.bid self.market.offer self.last) }
         ensures is_price { IfSome result (λ price. is_price price ≡ true) }
     {
-        let Market { bid, offer } = self.market;
-        if funding::within_spread(bid, offer, Product::terms()) {
-            Some(funding::futures_price(bid, offer, self.last))
+        if self.market.is_within_spread(Product::terms()) {
+            Some(self.market.futures_price(self.last))
         } else {
             None
         }

@@ -2,7 +2,7 @@
 // were accepted: all of them.
 #![tactic(auto)]
 
-use calls::Trade;
+use calls::{Kind, Trade};
 use figures::product::Product;
 use ledger::Book;
 use std::io;
@@ -15,7 +15,7 @@ fn trade_at(place: u64) -> Trade {
     Trade {
         buyer,
         seller,
-        kind: 0,
+        kind: Kind::Simple,
         quantity: 1,
         price: 200_200,
     }
@@ -26,7 +26,7 @@ fn play(mut book: Book) -> u64 {
     let mut accepted = 0;
     for place in 0..TRADES {
         let answer = book.trade(trade_at(place));
-        if answer.code == 0 {
+        if answer.outcome.is_ok() {
             accepted += 1;
         }
         book = answer.book;

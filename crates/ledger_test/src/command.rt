@@ -1,0 +1,90 @@
+// What a case asks for.
+use crate::numbers::{Mistake, Numbers, name_of};
+use calls::{Call, Kind, Trade};
+use funding::market::Market;
+use std::str::FromStr;
+
+#[derive(Clone, Copy)]
+pub enum Command {
+    Call(Call),
+    Opening(u32),
+    MinuteEnds { index: u32, count: u32 },
+    // the lengths of the lists
+    Report { positions: usize, cash: usize },
+    Products,
+    // the numbers that the calls come to, where a case names none
+    Row,
+}
+
+impl Command {
+    // The calls of a row, which ends with a report.
+    pub const ROW: [Call; 8] = [
+        Call::Quote(Market {
+            bid: 200_100,
+            offer: 200_300,
+        }),
+        Call::Trade(Trade {
+            buyer: 1,
+            seller: 2,
+            kind: Kind::Simple,
+            quantity: 1,
+            price: 200_200,
+        }),
+        Call::Halt,
+        Call::Resume,
+        Call::MinuteEnd(200_000),
+        Call::Fix(200_200),
+        Call::Close,
+        Call::DayLength(1_140),
+    ];
+}
+
+fn trade(numbers: &mut Numbers<'_>) -> Result<Trade, Mistake> {
+    Ok(Trade {
+        buyer: numbers.next()?,
+        seller: numbers.next()?,
+        kind: Kind::from(numbers.next::<u8>()?),
+        quantity: numbers.next()?,
+        price: numbers.next()?,
+    })
+}
+
+// The call of this name.
+fn call(name: &str, numbers: &mut Numbers<'_>) -> Result<Option<Call>, Mistake> {
+    Ok(Some(match name {
+        "quote" => Call::Quote(numbers.market()?),
+        "trade" => Call::Trade(trade(numbers)?),
+        "halt" => Call::Halt,
+        "resume" => Call::Resume,
+        "minute end" => Call::MinuteEnd(numbers.next()?),
+        "fix" => Call::Fix(numbers.next()?),
+        "close" => Call::Close,
+        "day length" => Call::DayLength(numbers.next()?),
+        _ => return Ok(None),
+    }))
+}
+
+impl FromStr for Command {
+    type Err = Mistake;
+
+    fn from_str(text: &str) -> Result<Self, Mistake> {
+        let name = name_of(text);
+        let mut numbers = Numbers::of(text);
+        if let Some(call) = call(name, &mut numbers)? {
+            return Ok(Command::Call(call));
+        }
+        Ok(match name {
+            "opening" => Command::Opening(numbers.next()?),
+            "minute ends of" => Command::MinuteEnds {
+                index: numbers.next()?,
+                count: numbers.next()?,
+            },
+            "report to" => Command::Report {
+                positions: numbers.next()?,
+                cash: numbers.next()?,
+            },
+            "products" => Command::Products,
+            _ => Command::Row,
+        })
+    }
+}
