@@ -1,5 +1,5 @@
 -- How a run over a file goes on.
---     begins, ends     at the start, and where nothing is left of the file
+--     begins, joined, ends     at the start, one part after another, and where nothing is left of the file
 --     one_call, no_call     what one call leads to, and none
 --     goes_on          past a record, with its call played
 -- Assumes nothing.
@@ -8,6 +8,7 @@ use mathlib.Core.Bool.{Bool, true, false, cond}
 use mathlib.Core.List.{List, [], ◌∷◌}
 use Prim.Native.Nat.{ℕ, ◌+◌, ◌≤◌}
 use native.Mathlib.Omega.{arith}
+use mir.Val.{bool_byte}
 use lib.ListN.{length}
 use Rattle.std.specs.Prelude.{Option, Some, None, Result, Ok, Err, is_ok, nat_eq}
 use Rattle.integers.specs.Lists.{keep_if}
@@ -61,19 +62,31 @@ pub no_call : (b : Book) → record { accepted = 0; book = b } ≡ run_over b []
 unfolding run accepted_calls
 no_call b = refl
 
-pub begins : (file : List ℕ) (b : Book) → Running file b b 0 0
-begins file b = record { fewer = omega arith; inside = omega arith; book_is = refl; count_is = omega arith }
+-- a record is accepted once at most
+once : (t : Bool) → cond t 1 0 ≤ 1
+once true = omega arith
+once false = omega arith
 
-pub ends : {file : List ℕ} {start b : Book} {count at : ℕ} → Running file start b count at → read_at file at ≡ None → record { accepted = count; book = b } ≡ run_over start (calls_of file)
+number : (t : Bool) → bool_byte t ≡ cond t 1 0
+number true = refl
+number false = refl
+
+pub begins : (file : List ℕ) (b : Book) (count at : ℕ) → count ≤ at → at ≤ length file → Running file b count at b count at
+begins file b count at h k = record { fewer = h; inside = k; onward = omega arith; book_is = refl; count_is = refl }
+
+pub joined : {file : List ℕ} {start b c : Book} {before from count at count' at' : ℕ} → Running file start before from b count at → Running file b count at c count' at' → Running file start before from c count' at'
+joined r s = record { fewer = s.fewer; inside = s.inside; onward = omega (arith, r.onward, s.onward); book_is = r.book_is ∙ s.book_is; count_is = r.count_is ∙ s.count_is }
+
+pub ends : {file : List ℕ} {start b : Book} {count at : ℕ} → Running file start 0 0 b count at → read_at file at ≡ None → record { accepted = count; book = b } ≡ run_over start (calls_of file)
 unfolding run accepted_calls
 ends {file} {start} {b} {count} {at} r e =
     let left : calls_from file at ≡ [] = calls_at_end file at e in
     let n : count ≡ accepted start (calls_of file) = omega (arith, r.count_is, ap (accepted b) left) in
     ap₂ (λ (k : ℕ) (c : Book). record { accepted = k; book = c }) n (sym (r.book_is ∙ ap (run accounts b) left))
 
-pub goes_on : {file : List ℕ} {start b b' : Book} {count at more : ℕ} → Running file start b count at → (r : Read) → read_at file at ≡ Some r
-    → record { accepted = more; book = b' } ≡ run_over b (called r.call []) → more ≤ 1 → Running file start b' (count + more) r.next
-goes_on {file} {start} {b} {b'} {count} {at} {more} h r e played one =
+goes_on_by : {file : List ℕ} {start b b' : Book} {before from count at more : ℕ} → Running file start before from b count at → (r : Read) → read_at file at ≡ Some r
+    → record { accepted = more; book = b' } ≡ run_over b (called r.call []) → more ≤ 1 → Running file start before from b' (count + more) r.next
+goes_on_by {file} {start} {b} {b'} {before} {from} {count} {at} {more} h r e played one =
     let on = further_to file at r e in
     let calls = calls_at file at r e in
     let rest = calls_from file r.next in
@@ -82,6 +95,11 @@ goes_on {file} {start} {b} {b'} {count} {at} {more} h r e played one =
     record {
       fewer = omega (arith, h.fewer, on.0);
       inside = on.1;
+      onward = omega (arith, h.onward, on.0);
       book_is = h.book_is ∙ ap (run accounts b) calls ∙ book_then b r.call rest ∙ ap (λ (x : Book). run accounts x rest) book;
       count_is = omega (arith, h.count_is, ap (accepted b) calls, count_then b r.call rest, number, ap (λ (x : Book). accepted x rest) book);
     }
+
+pub goes_on : {file : List ℕ} {start b b' : Book} {before from count at n : ℕ} (t : Bool) → Running file start before from b count at → (r : Read) → read_at file at ≡ Some r
+    → record { accepted = cond t 1 0; book = b' } ≡ run_over b (called r.call []) → n ≡ bool_byte t → Running file start before from b' (count + n) r.next
+goes_on t h r e played n = rw (n, number t) (goes_on_by h r e played (once t))

@@ -15,10 +15,11 @@ pub record RunEnd : Type 0 where
 abbrev pub run_over : Book → List Call → RunEnd
 run_over b cs = record { accepted = length (accepted_calls accounts b cs); book = run accounts b cs }
 
--- ---- what the loop of a run keeps, which a reader can skip: what began with one book has come to a place of the file with another, and what follows leads
--- to the same end
-pub record Running (file : List ℕ) (start b : Book) (count at : ℕ) : Type 0 where
+-- ---- what the loops of a run promise each other, which a reader can skip: what began at a place of the file with one book and count has come to a later place
+-- with another, and what follows leads to the same end
+pub record Running (file : List ℕ) (start : Book) (before from : ℕ) (b : Book) (count at : ℕ) : Type 0 where
   pub fewer : count ≤ at
   pub inside : at ≤ length file
-  pub book_is : run accounts start (calls_from file 0) ≡ run accounts b (calls_from file at)
-  pub count_is : length (accepted_calls accounts start (calls_from file 0)) ≡ count + length (accepted_calls accounts b (calls_from file at))
+  pub onward : from ≤ at
+  pub book_is : run accounts start (calls_from file from) ≡ run accounts b (calls_from file at)
+  pub count_is : before + length (accepted_calls accounts start (calls_from file from)) ≡ count + length (accepted_calls accounts b (calls_from file at))

@@ -1,13 +1,40 @@
 // The run of a book over the records of a day file.
 #![tactic(auto)]
 
-ghost use Rattle.std.specs.Prelude.{◌≡◌, cond, []};
+ghost use Rattle.std.specs.Prelude.{◌≡◌, cond, [], ◌≤◌, length};
 ghost use Rattle.dayfile.specs.Calls.{calls_of, called};
-ghost use Rattle.records.specs.Run.{run_over};
+ghost use Rattle.records.specs.Run.{run_over, Running};
 
 use calls::Call;
-use dayfile::{RecordError, read_record};
+use dayfile::{HEAD, RecordError, is_record_at, read_record};
+use frequent::{Frequent, MinuteEnds, Trades};
 use ledger::checked::CheckedBook;
+
+mod frequent;
+
+// What a part of a run has come to: the records accepted, and the place of the next one.
+#[derive(Clone, Copy)]
+struct Progress {
+    accepted: u64,
+    at: usize,
+}
+
+// Plays the records of one tag that follow one another from a place on.
+fn play_all<F: Frequent>(book: &mut CheckedBook, file: &[u8], from: Progress) -> Progress
+    requires { (from.accepted ≤ from.at) × (from.at ≤ length file.now) }
+    ensures { Running file.now book.old.book from.accepted from.at book.new.book result.accepted result.at }
+{
+    let Progress {
+        mut accepted,
+        mut at,
+    } = from;
+    while is_record_at(file, at, F::tag()) {
+        let body = at + HEAD;
+        accepted += u64::from(F::play(book, file, body));
+        at = body + F::tag().body_length();
+    }
+    Progress { accepted, at }
+}
 
 // Makes a record's call, if it has one, and answers whether it was accepted.
 fn play(book: &mut CheckedBook, call: Result<Option<Call>, RecordError>) -> bool
@@ -20,15 +47,20 @@ fn play(book: &mut CheckedBook, call: Result<Option<Call>, RecordError>) -> bool
     }
 }
 
-// Runs a book over the records of a file, and answers how many it accepted.
+// Runs a book over the records of a file, and answers how many it accepted. Minute ends and trades, which most records are, are
+// played by loops of their own, in which the machine has few numbers to keep.
 pub fn run(book: &mut CheckedBook, file: &[u8]) -> u64
     ensures { record { accepted = result; book = book.new.book } ≡ run_over book.old.book (calls_of file.now) }
 {
-    let mut accepted = 0;
-    let mut at = 0;
-    while let Some(read) = read_record(file, at) {
-        accepted += u64::from(play(book, read.call));
-        at = read.next;
+    let mut progress = Progress { accepted: 0, at: 0 };
+    while let Some(read) = read_record(file, progress.at) {
+        let accepted = progress.accepted + u64::from(play(book, read.call));
+        let after = Progress {
+            accepted,
+            at: read.next,
+        };
+        let ends = play_all::<MinuteEnds>(book, file, after);
+        progress = play_all::<Trades>(book, file, ends);
     }
-    accepted
+    progress.accepted
 }

@@ -5,7 +5,7 @@ use Rattle.records.specs.Run.{Running}
 use Rattle.records.proofs.run.Given as goal
 
 abbrev pub invariant-loop-read : goal.invariant-loop-read
-invariant-loop-read l = Running l.file l.initial.book.book l.book.book l.accepted l.at
+invariant-loop-read l = Running l.file l.initial.book.book 0 0 l.book.book l.progress.accepted l.progress.at
 
 abbrev pub decreases-loop-read : goal.decreases-loop-read
-decreases-loop-read l = length l.file - l.at
+decreases-loop-read l = length l.file - l.progress.at

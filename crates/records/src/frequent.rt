@@ -1,0 +1,53 @@
+// The records that most of a file is: minute ends and trades.
+ghost use Rattle.std.specs.Prelude.{◌≡◌, cond, ◌∷◌, [], ◌+◌, ◌≤◌, length};
+ghost use Rattle.tags.specs.declared.Tag.{Tag as Tag·Tag};
+ghost use Rattle.tags.specs.declared.Tag.TheVariants.{MinuteEnd, Trade};
+ghost use Rattle.tags.specs.Tags.{body_length};
+ghost use Rattle.bodies.specs.Body.{call_of};
+ghost use Rattle.records.specs.Run.{run_over};
+
+use bodies::{four_bytes, trade_at};
+use ledger::checked::CheckedBook;
+use tags::Tag;
+
+// Records of one tag.
+pub trait Frequent {
+    ghost tag: { Tag·Tag };
+
+    fn tag() -> Tag
+        ensures { result ≡ tag };
+
+    // Makes the call of a record whose body starts here, and answers whether it was accepted.
+    fn play(book: &mut CheckedBook, file: &[u8], body: usize) -> bool
+        requires { body + body_length tag ≤ length file.now }
+        ensures { record { accepted = cond result 1 0; book = book.new.book }
+            ≡ run_over book.old.book (call_of file.now tag body ∷ []) };
+}
+
+pub struct MinuteEnds;
+
+impl Frequent for MinuteEnds {
+    ghost tag = { MinuteEnd };
+
+    fn tag() -> Tag {
+        Tag::MinuteEnd
+    }
+
+    fn play(book: &mut CheckedBook, file: &[u8], body: usize) -> bool {
+        book.minute_end(four_bytes(file, body)).is_ok()
+    }
+}
+
+pub struct Trades;
+
+impl Frequent for Trades {
+    ghost tag = { Trade };
+
+    fn tag() -> Tag {
+        Tag::Trade
+    }
+
+    fn play(book: &mut CheckedBook, file: &[u8], body: usize) -> bool {
+        book.trade(trade_at(file, body)).is_ok()
+    }
+}
