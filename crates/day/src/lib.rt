@@ -88,8 +88,10 @@ impl Trades {
         ensures { result ≡ final_holds self.settling v }
     {
         let gross = self.settling.gross;
-        let n = self.settling.contracts as u64;
-        (2 * n <= v) & (LEAST_PRICE as u64 * n <= gross) & (gross <= LARGEST_PRICE as u64 * n)
+        let n = u64::from(self.settling.contracts);
+        (2 * n <= v)
+            & (u64::from(LEAST_PRICE) * n <= gross)
+            & (gross <= u64::from(LARGEST_PRICE) * n)
     }
 }
 
@@ -112,7 +114,7 @@ impl Day {
     pub fn is_in_last_minute(self) -> bool
         ensures { result ≡ in_last_minute (day_length self) self.minutes.ended }
     {
-        self.minutes.ended as u64 + 1 == self.session.length as u64
+        u64::from(self.minutes.ended) + 1 == u64::from(self.session.length)
     }
 
     fn minutes_hold(self) -> bool

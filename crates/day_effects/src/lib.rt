@@ -56,7 +56,7 @@ pub fn traded(day: Day, t: Trade) -> Day
             last: t.price,
             settling: FinalMinute {
                 contracts: day.trades.settling.contracts + t.quantity,
-                gross: day.trades.settling.gross + t.quantity as u64 * t.price as u64,
+                gross: day.trades.settling.gross + u64::from(t.quantity) * u64::from(t.price),
             },
         };
         after.trades = trades;

@@ -47,7 +47,7 @@ pub fn is_record_at(file: &[u8], at: usize, tag: Tag) -> bool
     if file[at] != u8::from(tag) {
         return false;
     }
-    two_bytes(file, at + 1) as usize == length
+    usize::from(two_bytes(file, at + 1)) == length
 }
 
 // The call of a record that lies within the file, of the stated length.
@@ -81,7 +81,7 @@ pub fn read_record(file: &[u8], at: usize) -> Option<Read>
     if rest < HEAD {
         return Some(cut_off);
     }
-    let stated = two_bytes(file, at + 1) as usize;
+    let stated = usize::from(two_bytes(file, at + 1));
     if rest - HEAD < stated {
         return Some(cut_off);
     }

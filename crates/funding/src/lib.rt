@@ -28,8 +28,8 @@ pub fn basis(futures: u32, index: u32) -> i64
     requires { 0 < index }
     ensures { result ≡ basis_of futures index }
 {
-    let u = index as i64;
-    integers::half_even((futures as i64 - u) * NANO, u)
+    let u = i64::from(index);
+    integers::half_even((i64::from(futures) - u) * NANO, u)
 }
 
 // The weighted sum with one more valid minute after the first `count`. A 64-bit number holds the sum of a whole day, and no
@@ -46,6 +46,6 @@ pub fn weighted_limit(count: u32) -> u64
     requires { count ≤ most_minutes }
     ensures { result ≡ weighted_limit count }
 {
-    let k = count as u64;
+    let k = u64::from(count);
     MOST_BASIS * (k * (k + 1) / 2)
 }

@@ -40,9 +40,9 @@ impl Market {
         if self.offer <= self.bid {
             return true;
         }
-        let b = self.bid as u64;
-        let a = self.offer as u64;
-        20_000 * (a - b) <= (terms.spread as u64) * (a + b)
+        let b = u64::from(self.bid);
+        let a = u64::from(self.offer);
+        20_000 * (a - b) <= u64::from(terms.spread) * (a + b)
     }
 
     // The futures price F of a minute that ends with this market, after this last trade.
@@ -52,7 +52,7 @@ impl Market {
         if (last != 0) & (self.bid <= last) & (last <= self.offer) {
             last
         } else {
-            ((self.bid as u64 + self.offer as u64) / 2) as u32
+            ((u64::from(self.bid) + u64::from(self.offer)) / 2) as u32
         }
     }
 

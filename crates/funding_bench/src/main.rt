@@ -7,11 +7,9 @@ ghost use Rattle.std.specs.Io.KnownBytes.{Appends};
 ghost use Rattle.printout.specs.Printout.{printout};
 
 use input_buffer::read_full;
+use printout::MOST_INPUT;
 use std::io;
 use std::io::{Read, Write};
-
-// The bytes of an input that count.
-const MOST_INPUT: usize = 65_536;
 
 // The bytes of a printout that are written at a time. Each part plays the whole input anew, so it is as long as most printouts
 // are; a longer one would only make the program's stack larger.

@@ -14,13 +14,6 @@ pub enum Tie {
     Away,
 }
 
-// The size of a signed number.
-pub fn magnitude(x: i64) -> u64
-    ensures { result ≡ nat_abs x }
-{
-    x.unsigned_abs()
-}
-
 // Whether a signed number's size is at most a limit.
 pub fn is_within(x: i64, limit: u64) -> bool
     ensures { result ≡ within x limit }

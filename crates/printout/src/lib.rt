@@ -14,7 +14,7 @@ use playing::{Printed, play_record};
 use text::Window;
 
 // The bytes of an input that count, its size byte included.
-const MOST_INPUT: usize = 65_536;
+pub const MOST_INPUT: usize = 65_536;
 
 // The lines of one record, with the columns after it.
 fn put_printed(window: &mut Window, printed: Option<Printed>, columns: &Columns)

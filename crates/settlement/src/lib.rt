@@ -33,7 +33,7 @@ pub fn rate(count: u32, sum: i64) -> i64
     if count == 0 {
         return 0;
     }
-    let k = count as u64;
+    let k = u64::from(count);
     integers::half_even(sum, (k * (k + 1) / 2) as i64)
 }
 
@@ -41,8 +41,8 @@ pub fn rate(count: u32, sum: i64) -> i64
 pub fn clamp(rate: i64, terms: Terms) -> i64
     ensures { result ≡ clamped_to terms rate }
 {
-    let least = 0 - terms.below as i64;
-    let largest = terms.above as i64;
+    let least = -i64::from(terms.below);
+    let largest = i64::from(terms.above);
     if rate < least {
         return least;
     }
@@ -58,7 +58,7 @@ pub fn amount(rate: i64, price: u32, size: u32, tie: Tie) -> i64
     requires { (nat_abs rate * (price * size) < 2 ^ 63) × (price * size < 2 ^ 63) }
     ensures { result ≡ amount_of tie rate price size }
 {
-    let scale = (price as u64 * size as u64) as i64;
+    let scale = (u64::from(price) * u64::from(size)) as i64;
     integers::rounded(0 - rate * scale, AMOUNT_SCALE, tie)
 }
 
@@ -67,10 +67,10 @@ fn index_price(index: u32, previous: Previous) -> u32
     ensures { result ≡ index_price index previous }
 {
     let given = (index != 0) & (previous.price != 0) & (previous.index != 0);
-    let sum = index as u64 + previous.price as u64;
-    let subtracted = previous.index as u64;
-    let is_price = (prices::LEAST_PRICE as u64 + subtracted <= sum)
-        & (sum <= prices::LARGEST_PRICE as u64 + subtracted);
+    let sum = u64::from(index) + u64::from(previous.price);
+    let subtracted = u64::from(previous.index);
+    let is_price = (u64::from(prices::LEAST_PRICE) + subtracted <= sum)
+        & (sum <= u64::from(prices::LARGEST_PRICE) + subtracted);
     if given & is_price {
         (sum - subtracted) as u32
     } else {
