@@ -23,6 +23,7 @@ fn posting(figures: &Figures, account: Account) -> i64
         cost,
         ..
     } = account;
+    // `as` and no `From`: that is a call, and the law by which nothing here overflows reads casts.
     let price = figures.day.fixed.price as i64;
     let previous = figures.previous.price as i64;
     let size = figures.size as i64;

@@ -52,7 +52,8 @@ impl Account {
     }
 }
 
-// For each account, the opening and the present position, the cost and the contracts bought plus sold today (v), and the cash.
+// For each account, the opening and the present position, the cost and the contracts bought plus sold today (v), and the cash. They
+// are arrays beside one another and no array of accounts: document 01 names them so, and a report copies two of them whole.
 #[derive(Clone, Copy)]
 pub struct Columns {
     pub opening: [i64; ACCOUNTS],

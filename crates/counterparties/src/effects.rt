@@ -19,7 +19,7 @@ pub fn exchange(column: &mut [i64; ACCOUNTS], t: Trade, amount: u64)
     column[j] = column[j] - z;
 }
 
-// Raises the v of both accounts.
+// Raises the v of both accounts. It is no `exchange` of another type: both entries rise.
 pub fn count(volume: &mut [u32; ACCOUNTS], t: Trade)
     requires { Countable volume.old t × (t.quantity ≤ most_quantity) }
     ensures { volume.new ≡ counted volume.old t }

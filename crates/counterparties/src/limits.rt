@@ -27,6 +27,7 @@ pub fn volume_stays(volume: &[u32; ACCOUNTS], t: Trade) -> bool
     requires { Countable volume.now t }
     ensures { result ≡ volume_stays volume.now t }
 {
+    // `as` and no `From`, here and in effects.rt: the laws by which nothing overflows read casts, not calls.
     let i = t.buyer as usize;
     let j = t.seller as usize;
     let raised = counts(t);
@@ -41,6 +42,7 @@ pub fn position_stays(position: &[i64; ACCOUNTS], t: Trade) -> bool
     requires { Exchangeable position.now t most_position }
     ensures { result ≡ position_stays position.now t }
 {
+    // `as` and no `From`, here and in effects.rt: the laws by which nothing overflows read casts, not calls.
     let i = t.buyer as usize;
     let j = t.seller as usize;
     let moved = moves(t) as i64;

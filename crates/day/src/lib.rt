@@ -57,7 +57,8 @@ pub struct Session {
     pub begun: bool,
 }
 
-// The day's figures, which a close empties. A price, an index or a side is 0 where there is none.
+// The day's figures, which a close empties. A price, an index or a side is 0 where there is none, and no Option: document 01 and
+// its limits name the number 0.
 #[derive(Clone, Copy)]
 pub struct Day {
     pub fixed: Fixed,

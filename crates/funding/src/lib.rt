@@ -38,6 +38,7 @@ pub fn accrue(sum: i64, count: u32, basis: i64) -> i64
     requires { Accrues sum count basis }
     ensures { result ≡ accrued sum count basis }
 {
+    // `as` and no `From`: that is a call, and the law by which nothing here overflows reads casts.
     sum + (count as i64 + 1) * basis
 }
 

@@ -92,6 +92,7 @@ impl Book {
         }
     }
 
+    // Two numbers and no market: document 01's quote is (bid, offer).
     pub fn quote(self, bid: u32, offer: u32) -> Answer
         ensures { answer_of result.outcome result.book
             ≡ Step·step accounts self (Call.Quote (record { bid = bid; offer = offer })) }

@@ -12,7 +12,7 @@ pub struct Outcome(pub figures::Outcome);
 impl Outcome {
     // The refusal's number, and 0 where there is none.
     pub fn number(&self) -> u8 {
-        self.0.err().map_or(0, Refusal::number)
+        self.0.err().map_or(0, u8::from)
     }
 
     pub fn is_refused(&self) -> bool {
@@ -29,7 +29,7 @@ impl fmt::Display for Outcome {
                 "accepted, price {} rate {} amount {} valid {}",
                 fixing.price, fixing.rate, fixing.amount, fixing.valid
             ),
-            Err(refusal) => write!(f, "refused {}", refusal.number()),
+            Err(refusal) => write!(f, "refused {}", u8::from(refusal)),
         }
     }
 }

@@ -28,7 +28,7 @@ impl Printed {
         ensures { result ≡ Printed.Refused (number refusal) place }
     {
         Printed::Refused {
-            number: refusal.number(),
+            number: u8::from(refusal),
             place,
         }
     }

@@ -22,6 +22,7 @@ pub fn is_ticked(p: u32) -> bool
     is_price(p) & (p % TICK == 0)
 }
 
+// Here and below, one function that is given the test would say no more than these two.
 pub fn none_or_price(p: u32) -> bool
     ensures { result ≡ none_or_price p }
 {

@@ -33,6 +33,7 @@ fn put_records(window: &mut Window, book: &mut CheckedBook, file: &[u8])
     requires { length file.now ≤ most_input }
     ensures { Puts window.old (after_records book.old.book 1 (records_of file.now)).text window.new }
 {
+    // No iterator of records: it would keep the place of the next one just as this loop does, and `place` beside it.
     let mut start: usize = 0;
     let mut place: u64 = 1;
     while let Some(read) = read_record(file, start) {
@@ -50,7 +51,7 @@ fn put_printout(window: &mut Window, size: u8, file: &[u8])
 {
     match CheckedBook::opening(u32::from(size)) {
         Ok(mut book) => put_records(window, &mut book, file),
-        Err(refusal) => put_refused(window, refusal.number(), 0),
+        Err(refusal) => put_refused(window, u8::from(refusal), 0),
     }
     window.put(b"end\n");
 }

@@ -27,12 +27,12 @@ pub enum Refusal {
     Lists,
 }
 
-impl Refusal {
-    // Document 01's number.
-    pub fn number(self) -> u8
-        ensures { result ≡ Refusals·number self }
-    {
-        match self {
+// Document 01's number.
+impl From<Refusal> for u8 {
+    ghost from_gives = { λ refusal n. n ≡ Refusals·number refusal };
+
+    fn from(refusal: Refusal) -> u8 {
+        match refusal {
             Refusal::Record => 1,
             Refusal::Limits => 2,
             Refusal::Day => 3,
@@ -45,7 +45,9 @@ impl Refusal {
             Refusal::Lists => 10,
         }
     }
+}
 
+impl Refusal {
     // This refusal, where its sentence is met.
     pub fn when(self, met: bool) -> Result<(), Refusal>
         ensures { result ≡ cond met (Err self) (Ok tt) }

@@ -38,6 +38,6 @@ returns c =
     let all : Puts first (body o file) c.match-opening.window =
     elim c.match-opening.branch [
       | in-Ok w ↦ subst (Puts first _) (sym w.window-is) (puts_in_words (taken w.in-Ok.book o file (ap checked_opening (sym w.in-Ok.is) ∙ e)) w.put_records.ensures)
-      | in-Err w ↦ subst (Puts first _) (sym w.window-is) (puts_in_words (refused w.in-Err.refusal o file (ap checked_opening (sym w.in-Err.is) ∙ e)) (rw (← w.number.ensures) w.put_refused.ensures))
+      | in-Err w ↦ subst (Puts first _) (sym w.window-is) (puts_in_words (refused w.in-Err.refusal o file (ap checked_opening (sym w.in-Err.is) ∙ e)) (rw (← w.from-in-Err.ensures) w.put_refused.ensures))
     ] in
     puts_then all c.put.ensures
