@@ -9,7 +9,8 @@ use calls::{Call, Kind, Trade};
 use funding::market::Market;
 use tags::Tag;
 
-// Numbers of two and of four bytes, which are required to lie within the file.
+// Numbers of two and of four bytes, which are required to lie within the file, as each body below is, whatever its length. They are
+// no one function over the width: that would name an array's length by an expression.
 pub fn two_bytes(file: &[u8], at: usize) -> u16
     requires { at + 2 ≤ length file.now }
     ensures { result ≡ two_bytes file.now at }

@@ -1,4 +1,4 @@
-// The close of a day, on the lent figures and columns of a book: every account's cash is posted, and the day's columns start
+// The close of a day, on the lent figures and columns of a book, whose crate is above: every account's cash is posted, and the day's columns start
 // empty.
 #![tactic(auto, unfolding(outcomes::specs::Effects::fixing_of))]
 

@@ -33,6 +33,7 @@ pub struct Account {
 fn position_holds(position: i64) -> bool
     ensures { result ≡ within position most_position }
 {
+    // `as`: a constant below 2^63.
     let most = MOST_POSITION as i64;
     (-most..=most).contains(&position)
 }

@@ -1,4 +1,4 @@
-// What an accepted trade does to the entries of its two accounts.
+// What an accepted trade does to the entries of its two accounts. Numbers are widened by `as`, as in limits.rt.
 ghost use Rattle.std.specs.Prelude.{◌≡◌, ◌≤◌};
 ghost use Rattle.calls.specs.Trade.{most_quantity};
 ghost use Rattle.counterparties.specs.Counterparties.{exchanged, counted};

@@ -1,4 +1,5 @@
-// Refusals 7 and 8: whether the accounts of a trade stay within their limits.
+// Refusals 7 and 8: whether the accounts of a trade stay within their limits. Numbers are widened by `as` and not by `From`: the
+// laws by which nothing overflows read casts, not calls.
 ghost use Rattle.std.specs.Prelude.{◌≡◌, cond, ◌+◌, eqb};
 ghost use Rattle.columns.specs.Limits.{most_position};
 ghost use Rattle.counterparties.specs.Counterparties.{volume_stays, position_stays};
@@ -27,7 +28,6 @@ pub fn volume_stays(volume: &[u32; ACCOUNTS], t: Trade) -> bool
     requires { Countable volume.now t }
     ensures { result ≡ volume_stays volume.now t }
 {
-    // `as` and no `From`, here and in effects.rt: the laws by which nothing overflows read casts, not calls.
     let i = t.buyer as usize;
     let j = t.seller as usize;
     let raised = counts(t);
@@ -42,7 +42,6 @@ pub fn position_stays(position: &[i64; ACCOUNTS], t: Trade) -> bool
     requires { Exchangeable position.now t most_position }
     ensures { result ≡ position_stays position.now t }
 {
-    // `as` and no `From`, here and in effects.rt: the laws by which nothing overflows read casts, not calls.
     let i = t.buyer as usize;
     let j = t.seller as usize;
     let moved = moves(t) as i64;

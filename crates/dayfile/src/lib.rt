@@ -2,12 +2,14 @@
 #![tactic(auto)]
 
 ghost use Rattle.std.specs.Prelude.{◌≡◌, ◌+◌, ◌≤◌, length};
+ghost use Rattle.refusals.specs.declared.Refusal.TheVariants.{Record};
 ghost use Rattle.tags.specs.Tags.{tag_of};
 ghost use Rattle.bodies.specs.Body.{byte_at};
 ghost use Rattle.dayfile.specs.Record.{stated_length, complete, read_at, is_record_at, read_number, record_refusal};
 
 use bodies::{call_of, two_bytes};
 use calls::Call;
+use refusals::Refusal;
 use tags::Tag;
 
 // The bytes of a tag and a length.
@@ -20,6 +22,14 @@ pub enum RecordError {
     CutOff,
     // the tag is known, and the length is not that of its bodies
     WrongLength,
+}
+
+impl From<RecordError> for Refusal {
+    ghost from_gives = { λ _ refusal. refusal ≡ Record };
+
+    fn from(_error: RecordError) -> Refusal {
+        Refusal::Record
+    }
 }
 
 // A record of a file. The place of the next one comes first, so that no call is put together over it.

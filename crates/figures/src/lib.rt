@@ -15,8 +15,8 @@ use settlement::Previous;
 
 pub mod product;
 
-// All that a book holds beside its account columns. Here and in the structs of `day` the order of the fields is the
-// one with which a run is fastest (`make speed`).
+// All that a book holds beside its account columns. Here and in the structs of `day` the order of the fields was chosen by timing
+// runs (`benchmarks/field-orders`).
 #[derive(Clone, Copy)]
 pub struct Figures {
     pub day: Day,

@@ -7,7 +7,8 @@ use crate::Figures;
 use funding::Terms;
 use refusals::Refusal;
 
-// A product, by its contract size in hundredths of a coin.
+// A product, by its contract size in hundredths of a coin. It is a size and no enum, as document 01 has it: a book may be made with
+// any size, which its limits then refuse.
 #[derive(Clone, Copy, Debug, PartialEq, Eq)]
 pub struct Product {
     pub size: u32,

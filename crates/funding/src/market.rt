@@ -23,7 +23,7 @@ impl Market {
     pub fn is_uncrossed(self) -> bool
         ensures { result ≡ uncrossed self }
     {
-        !((self.bid != 0) & (self.offer != 0)) | (self.bid < self.offer)
+        !self.is_two_sided() | (self.bid < self.offer)
     }
 
     // This market where both its sides stand, else the other.
@@ -52,6 +52,7 @@ impl Market {
         if (last != 0) & (self.bid <= last) & (last <= self.offer) {
             last
         } else {
+            // `as`: the mean of two numbers of 32 bits.
             ((u64::from(self.bid) + u64::from(self.offer)) / 2) as u32
         }
     }

@@ -10,6 +10,7 @@ use columns::ACCOUNTS;
 use figures::Fixing;
 use text::Window;
 
+// `number` is the refusal's, as it is printed.
 pub fn put_refused(window: &mut Window, number: u8, place: u64)
     ensures { Puts window.old (refused_line number place) window.new }
 {
@@ -29,6 +30,7 @@ pub fn put_day(window: &mut Window, day: u64, fixing: Fixing)
     window.put(b"\n");
 }
 
+// An account's line has two of its five entries, so that these are parameters.
 fn put_account(window: &mut Window, account: usize, position: i64, cash: i64)
     ensures { Puts window.old (account_line account position cash) window.new }
 {

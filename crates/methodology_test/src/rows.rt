@@ -32,7 +32,7 @@ impl Display for Spread {
         let sample = self.sample;
         let places = self.places;
         let price = sample.futures_price();
-        let is_valid = price.is_some() as u8;
+        let is_valid = u8::from(price.is_some());
         let futures = price.unwrap_or(0);
         let spread = sample.normalized_spread(10u32.pow(places));
         write!(f, "spread {sample} {is_valid} {futures} {spread} {places}")

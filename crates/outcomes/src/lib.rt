@@ -93,7 +93,8 @@ pub fn fix(figures: &mut Figures, set: u32) -> Outcome
     Ok(Some(fixing))
 }
 
-// An accepted close.
+// An accepted close. Here and in the columns' limits closed days within their own are required: a book may have any number of them
+// until its limits are looked at.
 pub fn closed_day(figures: &mut Figures)
     requires { figures.old.closed ≤ most_days }
     ensures { figures.new ≡ figures_after figures.old Call.Close }

@@ -2,7 +2,7 @@
 use mathlib.Core.{Bool.cond}
 use Rattle.std.specs.Prelude.{ℕ, ◌+◌, Option, Some, None, Result, Ok, Err}
 use lib.Dec.{eqb}
-use Rattle.calls.specs.{declared.Call.Call, Calls.on_close}
+use Rattle.calls.specs.{declared.Call.Call, Calls.on_fix, Calls.on_close}
 use Rattle.figures.specs.declared.Fixing.{Fixing}
 use Rattle.columns.specs.Columns.{accounts}
 use Rattle.ledger.specs.{declared.Book.Book, Step.Answered, Step.step}
@@ -14,10 +14,14 @@ use Rattle.playing.specs.declared.Printed.TheVariants as printed
 abbrev pub printed_number : ℕ → ℕ → Option Printed → Option Printed
 printed_number number place otherwise = cond (eqb number 0) otherwise (Some (printed.Refused number place))
 
+-- what a fix found, on the day after so many closed ones
+abbrev pub printed_fix : Option Fixing → ℕ → Option Printed
+printed_fix None closed = None
+printed_fix (Some fixing) closed = Some (printed.Day (closed + 1) fixing)
+
 -- 01: "A fix prints the day counted from 1, P, clamped rate, amount and k. A close prints" the accounts. Other accepted calls print nothing.
 abbrev pub printed_when_accepted : Option Fixing → ℕ → Call → Option Printed
-printed_when_accepted (Some fixing) closed c = Some (printed.Day (closed + 1) fixing)
-printed_when_accepted None closed c = on_close (Some printed.Accounts) None c
+printed_when_accepted fixing closed c = on_fix (λ set. printed_fix fixing closed) (on_close (Some printed.Accounts) None c) c
 
 -- 01: "A refused record prints `refused`, its number, `record`, its place from 1 (unknown ones count)"
 abbrev pub printed_by : ℕ → Option Fixing → ℕ → Call → ℕ → Option Printed

@@ -40,11 +40,11 @@ fn printed_by(outcome: Outcome, closed: u32, call: Call, place: u64) -> Option<P
 {
     match outcome {
         Err(refusal) => Some(Printed::refused(refusal, place)),
-        Ok(Some(fixing)) => Some(Printed::Day {
-            day: u64::from(closed) + 1,
-            fixing,
-        }),
-        Ok(None) => match call {
+        Ok(found) => match call {
+            Call::Fix(_) => found.map(|fixing| Printed::Day {
+                day: u64::from(closed) + 1,
+                fixing,
+            }),
             Call::Close => Some(Printed::Accounts),
             _ => None,
         },
@@ -65,6 +65,6 @@ pub fn play_record(
             printed_by(outcome, book.book.figures.closed, call, place)
         }
         Ok(None) => None,
-        Err(_) => Some(Printed::refused(Refusal::Record, place)),
+        Err(error) => Some(Printed::refused(Refusal::from(error), place)),
     }
 }

@@ -28,6 +28,7 @@ fn put_printed(window: &mut Window, printed: Option<Printed>, columns: &Columns)
     }
 }
 
+// Here and in two functions below the length of the file is required, so that records can be counted: `write` alone knows it.
 // The lines of the records of a file.
 fn put_records(window: &mut Window, book: &mut CheckedBook, file: &[u8])
     requires { length file.now ≤ most_input }

@@ -1,5 +1,5 @@
 -- How a run over a file goes on.
---     begins, joined, ends     at the start, one part after another, and where nothing is left of the file
+--     joined, ends     one part after another, and where nothing is left of the file
 --     one_call, no_call     what one call leads to, and none
 --     goes_on          past a record, with its call played
 -- Assumes nothing.
@@ -70,9 +70,6 @@ once false = omega arith
 number : (t : Bool) → bool_byte t ≡ cond t 1 0
 number true = refl
 number false = refl
-
-pub begins : (file : List ℕ) (b : Book) (count at : ℕ) → count ≤ at → at ≤ length file → Running file b count at b count at
-begins file b count at h k = record { fewer = h; inside = k; onward = omega arith; book_is = refl; count_is = refl }
 
 pub joined : {file : List ℕ} {start b c : Book} {before from count at count' at' : ℕ} → Running file start before from b count at → Running file b count at c count' at' → Running file start before from c count' at'
 joined r s = record { fewer = s.fewer; inside = s.inside; onward = omega (arith, r.onward, s.onward); book_is = r.book_is ∙ s.book_is; count_is = r.count_is ∙ s.count_is }

@@ -28,6 +28,7 @@ fn play_all<F: Frequent>(book: &mut CheckedBook, file: &[u8], from: Progress) ->
         mut accepted,
         mut at,
     } = from;
+    // No iterator: the next part begins where this one stops.
     while is_record_at(file, at, F::tag()) {
         let body = at + HEAD;
         accepted += u64::from(F::play(book, file, body));
@@ -53,6 +54,7 @@ pub fn run(book: &mut CheckedBook, file: &[u8]) -> u64
     ensures { record { accepted = result; book = book.new.book } ≡ run_over book.old.book (calls_of file.now) }
 {
     let mut progress = Progress { accepted: 0, at: 0 };
+    // No iterator here either: the loops above go on from the same place.
     while let Some(read) = read_record(file, progress.at) {
         let accepted = progress.accepted + u64::from(play(book, read.call));
         let after = Progress {

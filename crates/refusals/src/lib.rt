@@ -63,6 +63,7 @@ fn is_full(closed: u32) -> bool
     MOST_DAYS <= closed
 }
 
+// Here and below the closed days and the halt are values beside one another: the figures that have both stand in a crate above.
 // The sentences that calls of most kinds can meet, in their order: 3 where the day doesn't allow the call, 4 where the halt
 // doesn't, or its absence, and 5 where a value is outside its field.
 fn first_sentences(

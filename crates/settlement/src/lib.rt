@@ -1,5 +1,6 @@
 // The fix of the exchange's funding methodology (document 001): rate, clamp, amount and settlement price, in whole numbers.
-// A price is in cents, a rate in nano (10^-9), an amount in whole cents per contract, a size in hundredths of a coin.
+// A price is in cents, a rate in nano (10^-9), an amount in whole cents per contract, a size in hundredths of a coin. A price or an
+// index of 0 is none, and no Option, as document 01 writes it. `as` turns what is shown to fit.
 #![tactic(auto)]
 
 ghost use Rattle.std.specs.Prelude.{◌≡◌, ◌*◌, ◌<◌, ◌≤◌, ◌^◌, nat_abs};

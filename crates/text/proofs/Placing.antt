@@ -1,6 +1,6 @@
 -- Laws of texts put piece by piece.
 --     then, room_first, room_rest   two texts one after another
---     in_words, nothing             one text in other words, and none
+--     nothing                       no text
 --     puts_then, puts_in_words, puts_nothing      the same of texts put into a window
 --     length_placed, kept           the buffer keeps its length
 --     placed_over                   what was put from the text's start on is the part of it that the buffer lies over
@@ -54,9 +54,6 @@ unfolding placed
 nothing at from out = record { end_is = omega arith; out_is = refl }
 
 -- the same text in other words
-pub in_words : {at : ℕ} {a b : List ℕ} {from : ℕ} {out : List ℕ} {end : ℕ} {after : List ℕ} → a ≡ b → Put at a from out end after → Put at b from out end after
-in_words {at} {a} {b} {from} {out} {end} {after} e p = subst (λ (text : List ℕ). Put at text from out end after) e p
-
 pub room_first : (at : ℕ) (a b : List ℕ) → Room at (a ++ b) → Room at a
 room_first at a b h = omega (arith, h, length-append a b)
 

@@ -1,4 +1,4 @@
-// A trade, on the lent figures and columns of a book.
+// A trade, on the lent figures and columns of a book: they are two values, since the book stands with its calls, in a crate above.
 #![tactic(auto, unfolding(outcomes::specs::Effects::fixing_of))]
 
 ghost use Rattle.std.specs.Prelude.{◌≡◌};
