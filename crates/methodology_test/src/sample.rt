@@ -52,9 +52,10 @@ impl Sample {
     pub fn normalized_spread(self, scale: u32) -> i64
         requires { scale ≤ 10000000 }
     {
-        let bid = i64::from(self.market.bid);
-        let offer = i64::from(self.market.offer);
-        integers::half_even((offer - bid) * 2 * i64::from(scale), bid + offer)
+        // `as` and no `From`: that is a call, and the law by which nothing here overflows reads casts.
+        let bid = self.market.bid as i64;
+        let offer = self.market.offer as i64;
+        integers::half_even((offer - bid) * 2 * scale as i64, bid + offer)
     }
 }
 
