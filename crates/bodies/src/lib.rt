@@ -9,6 +9,8 @@ use calls::{Call, Kind, Trade};
 use funding::market::Market;
 use tags::Tag;
 
+// Here and in the crates that read a file, a file and a place in it are two values: the definitions count places from the file's start,
+// as a reader of the bytes does, and a slice of what is left would lose them.
 // Numbers of two and of four bytes, which are required to lie within the file, as each body below is, whatever its length. They are
 // no one function over the width: that would name an array's length by an expression.
 pub fn two_bytes(file: &[u8], at: usize) -> u16

@@ -56,6 +56,7 @@ pub enum Call {
     Trade(Trade),
     Halt,
     Resume,
+    // The index of the minute, and the set price: 0 where there is none, and no Option, as document 01 writes it.
     MinuteEnd(u32),
     Fix(u32),
     Close,

@@ -23,10 +23,9 @@ fn posting(figures: &Figures, account: Account) -> i64
         cost,
         ..
     } = account;
-    // `as` and no `From`: that is a call, and the law by which nothing here overflows reads casts.
-    let price = figures.day.fixed.price as i64;
-    let previous = figures.previous.price as i64;
-    let size = figures.size as i64;
+    let price = i64::from(figures.day.fixed.price);
+    let previous = i64::from(figures.previous.price);
+    let size = i64::from(figures.size);
     (position * price - opening * previous - cost) * size
         + position * figures.day.fixed.amount * 100
 }

@@ -1,4 +1,4 @@
-// What an accepted trade does to the entries of its two accounts. Numbers are widened by `as`, as in limits.rt.
+// What an accepted trade does to the entries of its two accounts.
 ghost use Rattle.std.specs.Prelude.{◌≡◌, ◌≤◌};
 ghost use Rattle.calls.specs.Trade.{most_quantity};
 ghost use Rattle.counterparties.specs.Counterparties.{exchanged, counted};
@@ -12,8 +12,9 @@ pub fn exchange(column: &mut [i64; ACCOUNTS], t: Trade, amount: u64)
     requires { Exchangeable column.old t most_entry × (amount ≤ most_moved) }
     ensures { column.new ≡ exchanged column.old t amount }
 {
-    let i = t.buyer as usize;
-    let j = t.seller as usize;
+    let i = usize::from(t.buyer);
+    let j = usize::from(t.seller);
+    // `as`: what is moved is below 2^63.
     let z = amount as i64;
     column[i] = column[i] + z;
     column[j] = column[j] - z;
@@ -24,8 +25,8 @@ pub fn count(volume: &mut [u32; ACCOUNTS], t: Trade)
     requires { Countable volume.old t × (t.quantity ≤ most_quantity) }
     ensures { volume.new ≡ counted volume.old t }
 {
-    let i = t.buyer as usize;
-    let j = t.seller as usize;
+    let i = usize::from(t.buyer);
+    let j = usize::from(t.seller);
     volume[i] = volume[i] + t.quantity;
     volume[j] = volume[j] + t.quantity;
 }

@@ -1,5 +1,4 @@
-// Refusals 7 and 8: whether the accounts of a trade stay within their limits. Numbers are widened by `as` and not by `From`: the
-// laws by which nothing overflows read casts, not calls.
+// Refusals 7 and 8: whether the accounts of a trade stay within their limits.
 ghost use Rattle.std.specs.Prelude.{◌≡◌, cond, ◌+◌, eqb};
 ghost use Rattle.columns.specs.Limits.{most_position};
 ghost use Rattle.counterparties.specs.Counterparties.{volume_stays, position_stays};
@@ -12,7 +11,7 @@ use columns::{ACCOUNTS, MOST_POSITION, MOST_VOLUME};
 fn counts(t: Trade) -> u64
     ensures { result ≡ cond (eqb t.buyer t.seller) (t.quantity + t.quantity) t.quantity }
 {
-    let q = t.quantity as u64;
+    let q = u64::from(t.quantity);
     if t.buyer == t.seller { q + q } else { q }
 }
 
@@ -28,12 +27,12 @@ pub fn volume_stays(volume: &[u32; ACCOUNTS], t: Trade) -> bool
     requires { Countable volume.now t }
     ensures { result ≡ volume_stays volume.now t }
 {
-    let i = t.buyer as usize;
-    let j = t.seller as usize;
+    let i = usize::from(t.buyer);
+    let j = usize::from(t.seller);
     let raised = counts(t);
-    let bought = volume[i] as u64 + raised;
-    let sold = volume[j] as u64 + raised;
-    (bought <= MOST_VOLUME as u64) & (sold <= MOST_VOLUME as u64)
+    let bought = u64::from(volume[i]) + raised;
+    let sold = u64::from(volume[j]) + raised;
+    (bought <= u64::from(MOST_VOLUME)) & (sold <= u64::from(MOST_VOLUME))
 }
 
 // Whether the positions of both accounts stay within their limit. Positions within it are required, so that the sums fit, and
@@ -42,11 +41,12 @@ pub fn position_stays(position: &[i64; ACCOUNTS], t: Trade) -> bool
     requires { Exchangeable position.now t most_position }
     ensures { result ≡ position_stays position.now t }
 {
-    let i = t.buyer as usize;
-    let j = t.seller as usize;
-    let moved = moves(t) as i64;
+    let i = usize::from(t.buyer);
+    let j = usize::from(t.seller);
+    let moved = i64::from(moves(t));
     let bought = position[i] + moved;
     let sold = position[j] - moved;
+    // `as`: a constant below 2^63.
     let most = MOST_POSITION as i64;
     (bought <= most) & (0 - most <= sold)
 }

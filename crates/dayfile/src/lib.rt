@@ -41,6 +41,7 @@ pub struct Read {
     pub call: Result<Option<Call>, RecordError>,
 }
 
+// Here and below a file and a place in it are two values, as in crate bodies.
 // Whether a complete record of this tag and of its length stands at a place. The place is compared with the last one at which it
 // could start, which is the same at every record of a file.
 pub fn is_record_at(file: &[u8], at: usize, tag: Tag) -> bool

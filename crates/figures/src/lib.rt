@@ -30,6 +30,7 @@ pub struct Figures {
 // What a fix finds and prints.
 #[derive(Clone, Copy, Debug, PartialEq, Eq)]
 pub struct Fixing {
+    // the settlement price, 0 where no rule gives one: document 01 and its limits count it so, and refusal 9 is of that number
     pub price: u32,
     // the clamped rate
     pub rate: i64,
@@ -79,7 +80,7 @@ impl Figures {
             & self.day.holds()
     }
 
-    // What a fix with this set price finds. A gross and a size within their limits are required, so that the figures fit.
+    // What a fix with this set price, 0 for none as in its call, finds. A gross and a size within their limits are required, so that the figures fit.
     pub fn fixing(self, set: u32) -> Fixing
         requires { Fixable self }
         ensures { result ≡ fixing_at self set }

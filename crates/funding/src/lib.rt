@@ -38,8 +38,7 @@ pub fn accrue(sum: i64, count: u32, basis: i64) -> i64
     requires { Accrues sum count basis }
     ensures { result ≡ accrued sum count basis }
 {
-    // `as` and no `From`: that is a call, and the law by which nothing here overflows reads casts.
-    sum + (count as i64 + 1) * basis
+    sum + (i64::from(count) + 1) * basis
 }
 
 // The most that the weighted sum of so many valid minutes comes to, in size. The minutes of a day are required, so that it fits.

@@ -6,8 +6,8 @@ ghost use Rattle.funding.specs.Market.{two_sided, uncrossed, as_minute, is_valid
 use crate::Terms;
 use prices::none_or_ticked;
 
-// A market, or one side of it: 0 where a side doesn't stand.
-#[derive(Clone, Copy, Default)]
+// A market, or one side of it. A side that doesn't stand is 0, and no Option: document 01 and its limits name the number 0.
+#[derive(Clone, Copy, Default, PartialEq, Eq)]
 pub struct Market {
     pub bid: u32,
     pub offer: u32,
@@ -45,7 +45,7 @@ impl Market {
         20_000 * (a - b) <= u64::from(terms.spread) * (a + b)
     }
 
-    // The futures price F of a minute that ends with this market, after this last trade.
+    // The futures price F of a minute that ends with this market, after this last trade, 0 for none, as document 01 writes it.
     pub fn futures_price(self, last: u32) -> u32
         ensures { result ≡ futures_price self.bid self.offer last }
     {
@@ -57,7 +57,7 @@ impl Market {
         }
     }
 
-    // Whether the minute that ends with this market and this index is valid.
+    // Whether the minute that ends with this market and this index, 0 for none as above, is valid.
     pub fn is_valid(self, halted: bool, index: u32, terms: Terms) -> bool
         ensures { result ≡ is_valid terms halted self index }
     {

@@ -32,7 +32,7 @@ fn print<W: Write>(out: &mut W, input: &[u8]) -> io::Result<()>
     }
 }
 
-// Writes the printout of what a reader has.
+// Writes the printout of what a reader has. The input is an array and how much of it was read: this program uses no heap.
 fn run<R: Read, W: Write>(mut reader: R, out: &mut W) -> io::Result<()>
 where
     R: Drop,

@@ -1,13 +1,14 @@
-// The printout of an input, a part of it at a time.
+// The printout of an input, a part of it at a time, for programs in C. It is compiled apart from the run, of which the compiler then
+// makes one function.
 #![tactic(auto)]
 
 ghost use Rattle.std.specs.Prelude.{◌≡◌, length, drop};
 ghost use Rattle.text.specs.Text.{over};
 ghost use Rattle.printout.specs.Printout.{printout};
 
-// Writes the part of an input's printout from an offset on that fits the buffer, leaves the rest of the buffer as it is, and
-// answers the length of the whole printout.
-pub fn funding_printout(input: &[u8], from: usize, out: &mut [u8]) -> usize
+// As `printout::write`, whose contract it has. A buffer in C is a pointer and a length (include/funding.h).
+#[unsafe(no_mangle)]
+pub extern "C" fn funding_printout(input: &[u8], from: usize, out: &mut [u8]) -> usize
     ensures length { result ≡ length (printout input.now) }
     ensures text { out.new ≡ over (drop from (printout input.now)) out.old }
 {

@@ -44,7 +44,7 @@ impl Book {
         }
     }
 
-    // A fresh book of this size, or refusal 5 with an empty book of size 0.
+    // A fresh book of this size, or refusal 5 with an empty book of size 0, as document 01 has it.
     pub fn opening(size: u32) -> Answer
         ensures { answer_of result.outcome result.book ≡ Step·opening accounts size }
     {
@@ -142,7 +142,8 @@ impl Book {
         self.step(Call::DayLength(minutes))
     }
 
-    // Entry j of the lists becomes account j's position and cash. Refusals 2 and 10 leave the lists as they are.
+    // Entry j of the lists becomes account j's position and cash. Refusals 2 and 10 leave the lists as they are. They are two, which
+    // document 01 names, and which the caller lends.
     pub fn report(&self, positions: &mut [i64], cash: &mut [i64]) -> Result<(), Refusal>
         ensures number { number_of result ≡ report_refusal accounts self.now (length positions.old) (length cash.old) }
         ensures positions { positions.new ≡ reported (number_of result) self.now.columns.position positions.old }

@@ -1,6 +1,7 @@
 // What differs between two books, in every figure and every account's entries.
 use crate::book::Entry;
 use crate::figure::{Figure, Value};
+use funding::market::Market;
 use ledger::Book;
 use std::alloc::{AllocError, Global};
 use std::{fmt, io};
@@ -20,7 +21,9 @@ impl fmt::Display for Change {
             Change::Figure(name, Value::Flag(true)) => write!(f, "; {name}"),
             Change::Figure(name, Value::Flag(false)) => write!(f, "; not {name}"),
             Change::Figure(name, Value::Number(number)) => write!(f, "; {name} {number}"),
-            Change::Figure(name, Value::Market(bid, offer)) => write!(f, "; {name} {bid}/{offer}"),
+            Change::Figure(name, Value::Market(Market { bid, offer })) => {
+                write!(f, "; {name} {bid}/{offer}")
+            }
             Change::Account(account) => write!(f, "; account {account}"),
             Change::Entry(name, number) => write!(f, " {name} {number}"),
         }

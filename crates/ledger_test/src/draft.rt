@@ -55,22 +55,29 @@ impl FromStr for Field {
 #[derive(Clone, Copy)]
 pub struct Draft {
     pub book: Book,
-    account: u8,
+    // none before the list names one
+    account: Option<u8>,
 }
 
 impl Draft {
     pub fn new() -> Self {
         Self {
             book: empty_book(),
-            account: 0,
+            account: None,
         }
     }
 
     fn set(&mut self, field: Field, numbers: &mut Numbers<'_>) -> Result<(), Mistake> {
         match field {
             Field::Figure(figure) => figure.set(&mut self.book.figures, numbers),
-            Field::Entry(entry) => entry.set(&mut self.book, self.account, numbers),
-            Field::Account => numbers.set(&mut self.account),
+            Field::Entry(entry) => {
+                let account = self.account.ok_or(Mistake::NoAccount)?;
+                entry.set(&mut self.book, account, numbers)
+            }
+            Field::Account => {
+                self.account = Some(numbers.next()?);
+                Ok(())
+            }
             Field::Opened => {
                 self.book = Book::opening(numbers.next()?).book;
                 Ok(())

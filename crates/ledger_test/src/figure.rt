@@ -29,14 +29,7 @@ pub enum Figure {
 pub enum Value {
     Flag(bool),
     Number(i128),
-    // bid and offer
-    Market(u32, u32),
-}
-
-impl From<Market> for Value {
-    fn from(market: Market) -> Self {
-        Value::Market(market.bid, market.offer)
-    }
+    Market(Market),
 }
 
 impl Figure {
@@ -67,8 +60,8 @@ impl Figure {
         let number: i128 = match self {
             Figure::Halted => return Value::Flag(figures.halted),
             Figure::Begun => return Value::Flag(day.session.begun),
-            Figure::Market => return day.markets.standing.into(),
-            Figure::MinuteMarket => return day.markets.minute.into(),
+            Figure::Market => return Value::Market(day.markets.standing),
+            Figure::MinuteMarket => return Value::Market(day.markets.minute),
             Figure::Size => figures.size.into(),
             Figure::Closed => figures.closed.into(),
             Figure::PreviousPrice => figures.previous.price.into(),

@@ -7,6 +7,8 @@ use std::str::Split;
 #[derive(Clone, Copy)]
 pub enum Mistake {
     NoSuchField,
+    // an entry of no account
+    NoAccount,
     // none is left, or it is outside its field's type
     NoNumber,
 }
@@ -15,6 +17,7 @@ impl fmt::Display for Mistake {
     fn fmt<W: fmt::Write>(&self, f: &mut fmt::Formatter<W>) -> fmt::Result {
         f.write_str(match self {
             Mistake::NoSuchField => "NO SUCH FIELD: ",
+            Mistake::NoAccount => "NO ACCOUNT: ",
             Mistake::NoNumber => "NO NUMBER: ",
         })
     }

@@ -10,7 +10,7 @@ use std::fmt;
 pub struct Outcome(pub figures::Outcome);
 
 impl Outcome {
-    // The refusal's number, and 0 where there is none.
+    // The refusal's number; 0 where there is none, as a row of the printout has it.
     pub fn number(&self) -> u8 {
         self.0.err().map_or(0, u8::from)
     }
@@ -49,8 +49,5 @@ pub fn answer_to(book: Book, call: Call) -> Answer {
 }
 
 pub fn report(book: &Book, positions: &mut [i64], cash: &mut [i64]) -> Outcome {
-    Outcome(match book.report(positions, cash) {
-        Ok(()) => Ok(None),
-        Err(refusal) => Err(refusal),
-    })
+    Outcome(book.report(positions, cash).map(|()| None))
 }

@@ -64,7 +64,7 @@ impl<'a> Player<'a> {
             self.list = Some(list);
         } else if let Some(list) = line.strip_prefix(">|") {
             self.list = None;
-            self.make_book(rt, list, "")?;
+            self.make_book(rt, list, None)?;
         } else if line.starts_with('-') {
             rt.println(line)?;
         } else if !line.is_empty() && !line.starts_with('#') {
@@ -73,9 +73,10 @@ impl<'a> Player<'a> {
         Ok(())
     }
 
-    fn make_book(&mut self, rt: &impl Print, list: &str, case: &str) -> io::Result<()> {
+    // A list whose fields have all their numbers has no case.
+    fn make_book(&mut self, rt: &impl Print, list: &str, case: Option<&str>) -> io::Result<()> {
         let mut draft = Draft::new();
-        let mut numbers = Numbers::of(case);
+        let mut numbers = Numbers::of(case.unwrap_or_default());
         for item in list.split_terminator('|') {
             if let Err(mistake) = draft.set_named(item, &mut numbers) {
                 rt.print(mistake)?;
@@ -88,7 +89,7 @@ impl<'a> Player<'a> {
     fn case(&mut self, rt: &(impl Print + AllocGlobal), line: &str) -> io::Result<()> {
         rt.print(line)?;
         if let Some(list) = self.list {
-            self.make_book(rt, list, line)?;
+            self.make_book(rt, list, Some(line))?;
         }
         let call = match line.split_once(": ") {
             Some((_, call)) => call,

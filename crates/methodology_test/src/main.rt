@@ -6,9 +6,6 @@ mod rows;
 mod sample;
 mod weighted;
 
-ghost use Rattle.std.specs.Prelude.{◌≡◌, true};
-ghost use Rattle.prices.specs.Price.{is_price};
-
 use rows::{Amount, Basis, Clamp, Spread, WeightedMinute};
 use sample::Sample;
 use std::fmt::Display;
@@ -42,25 +39,21 @@ fn bases(rt: &impl Print) -> io::Result<()> {
     print_rows(rt, &rows)
 }
 
-// The five minutes of the sample weights; the examples differ in the third one's bid.
-fn samples(bid: u32) -> [Sample; 5]
-    requires { is_price bid ≡ true }
-{
+// The five minutes of the sample weights; the examples differ in the third one.
+fn samples(third: Sample) -> [Sample; 5] {
     [
         Sample::new(8_391_030, 8_391_040, 8_391_500, 8_391_603),
         Sample::new(8_396_580, 8_396_590, 8_396_580, 8_398_313),
-        Sample::new(bid, 8_398_610, 8_400_000, 8_399_016),
+        third,
         Sample::new(8_399_450, 8_399_460, 8_399_460, 8_399_921),
         Sample::new(8_400_790, 8_400_800, 8_400_790, 8_404_832),
     ]
 }
 
 // Each minute with its weight and basis, then the rate.
-fn weights(rt: &impl Print, bid: u32) -> io::Result<()>
-    requires { is_price bid ≡ true }
-{
+fn weights(rt: &impl Print, third: Sample) -> io::Result<()> {
     let mut day = Weighted::none();
-    for sample in samples(bid) {
+    for sample in samples(third) {
         day = day.with_minute(sample);
         let weight = day.count;
         println!(rt; "{}", WeightedMinute { sample, weight })?;
@@ -92,8 +85,10 @@ fn amounts(rt: &impl Print) -> io::Result<()> {
 fn main(rt: HostRuntime) -> io::Result<()> {
     spreads(&rt)?;
     bases(&rt)?;
-    weights(&rt, 8_398_600)?;
-    weights(&rt, 8_356_610)?;
+    let narrow = Sample::new(8_398_600, 8_398_610, 8_400_000, 8_399_016);
+    let wide = Sample::new(8_356_610, 8_398_610, 8_400_000, 8_399_016);
+    weights(&rt, narrow)?;
+    weights(&rt, wide)?;
     clamps(&rt)?;
     amounts(&rt)
 }

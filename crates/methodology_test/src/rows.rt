@@ -26,7 +26,7 @@ impl Spread {
     }
 }
 
-// The minute; whether it is valid, its futures price, or 0 where it isn't, its spread, and the places.
+// The minute; whether it is valid, its futures price, for which the table has 0 where it isn't, its spread, and the places.
 impl Display for Spread {
     fn fmt<W: fmt::Write>(&self, f: &mut Formatter<W>) -> fmt::Result {
         let sample = self.sample;

@@ -22,6 +22,7 @@ pub struct Sample {
 }
 
 impl Sample {
+    // Four numbers, as a row of the table has them.
     pub fn new(bid: u32, offer: u32, last: u32, index: u32) -> Self
         requires { (is_price bid ≡ true) × (is_price offer ≡ true) × (is_price last ≡ true) × (is_price index ≡ true) }
         ensures market { (result.market.bid ≡ bid) × (result.market.offer ≡ offer) }
@@ -52,10 +53,9 @@ impl Sample {
     pub fn normalized_spread(self, scale: u32) -> i64
         requires { scale ≤ 10000000 }
     {
-        // `as` and no `From`: that is a call, and the law by which nothing here overflows reads casts.
-        let bid = self.market.bid as i64;
-        let offer = self.market.offer as i64;
-        integers::half_even((offer - bid) * 2 * scale as i64, bid + offer)
+        let bid = i64::from(self.market.bid);
+        let offer = i64::from(self.market.offer);
+        integers::half_even((offer - bid) * 2 * i64::from(scale), bid + offer)
     }
 }
 

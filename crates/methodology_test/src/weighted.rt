@@ -1,8 +1,7 @@
 // The weighted sum of an example's valid minutes.
-ghost use Rattle.std.specs.Prelude.{◌≡◌, true, ◌+◌, ◌<◌, ◌≤◌, nat_abs, IsTrue};
-ghost use Rattle.prices.specs.Price.{is_price};
+ghost use Rattle.std.specs.Prelude.{◌≡◌, ◌+◌, ◌<◌, ◌≤◌, nat_abs, IsTrue};
 ghost use Rattle.funding.specs.Terms.{standard_terms};
-ghost use Rattle.funding.specs.Minute.{weighted_limit, within_spread, futures_price, accrued, basis_of};
+ghost use Rattle.funding.specs.Minute.{weighted_limit, within_spread, futures_price, Accrues, accrued, basis_of};
 
 use crate::sample::Sample;
 use std::fmt;
@@ -23,13 +22,12 @@ impl Weighted {
         Weighted { count: 0, sum: 0 }
     }
 
-    // With one more valid minute.
-    fn weigh(self, futures: u32, index: u32) -> Self
-        requires { (self.count < 10) × (is_price futures ≡ true) × (is_price index ≡ true) }
+    // With one more valid minute of this basis.
+    fn weigh(self, basis: i64) -> Self
+        requires { Accrues self.sum self.count basis }
         ensures count { result.count ≡ self.count + 1 }
-        ensures sum { result.sum ≡ accrued self.sum self.count (basis_of futures index) }
+        ensures sum { result.sum ≡ accrued self.sum self.count basis }
     {
-        let basis = funding::basis(futures, index);
         let sum = funding::accrue(self.sum, self.count, basis);
         let count = self.count + 1;
         Weighted { count, sum }
@@ -45,7 +43,7 @@ impl Weighted {
             → result ≡ self }
     {
         match sample.futures_price() {
-            Some(futures) => self.weigh(futures, sample.index),
+            Some(futures) => self.weigh(funding::basis(futures, sample.index)),
             None => self,
         }
     }

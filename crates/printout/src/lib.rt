@@ -45,7 +45,7 @@ fn put_records(window: &mut Window, book: &mut CheckedBook, file: &[u8])
     }
 }
 
-// The printout of a size and the records of a file.
+// The printout of a size and the records of a file. A refused size is printed as record 0, as document 01 has it.
 fn put_printout(window: &mut Window, size: u8, file: &[u8])
     requires { length file.now ≤ most_input }
     ensures { Puts window.old (printout_of size file.now) window.new }
@@ -57,7 +57,7 @@ fn put_printout(window: &mut Window, size: u8, file: &[u8])
     window.put(b"end\n");
 }
 
-// The printout of an input all of which counts. A missing size counts as 0.
+// The printout of an input all of which counts. A missing size counts as 0, as document 01 has it.
 fn put_counted(window: &mut Window, input: &[u8])
     requires { length input.now ≤ most_input }
     ensures { Puts window.old (printout_of_counted input.now) window.new }
@@ -69,7 +69,7 @@ fn put_counted(window: &mut Window, input: &[u8])
 }
 
 // Writes the part of an input's printout from an offset on that fits the buffer, leaves the rest of the buffer as it is, and
-// answers the length of the whole printout.
+// answers the length of the whole printout. The buffer is lent: C calls this through crate host_printout, and no heap is used.
 pub fn write(input: &[u8], from: usize, out: &mut [u8]) -> usize
     ensures length { result ≡ length (printout input.now) }
     ensures text { out.new ≡ over (drop from (printout input.now)) out.old }

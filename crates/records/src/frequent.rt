@@ -17,7 +17,8 @@ pub trait Frequent {
     fn tag() -> Tag
         ensures { result ≡ tag };
 
-    // Makes the call of a record whose body starts here, and answers whether it was accepted.
+    // Makes the call of a record whose body starts here, and answers whether it was accepted. File and body are two values, as in
+    // crate bodies.
     fn play(book: &mut CheckedBook, file: &[u8], body: usize) -> bool
         requires { body + body_length tag ≤ length file.now }
         ensures { record { accepted = cond result 1 0; book = book.new.book }

@@ -1,5 +1,5 @@
 -- Refusals 3 to 9, in document 01's order: a number comes if its sentence is met, and only then.
-use mathlib.Core.{Bool.Bool, Bool.false, Bool.not, Bool.cond, Bool.◌&&◌, Bool.◌||◌, List.List, List.[], List.◌∷◌}
+use mathlib.Core.{Path.◌≡◌, Bool.Bool, Bool.false, Bool.not, Bool.cond, Bool.◌&&◌, Bool.◌||◌, List.List, List.[], List.◌∷◌}
 use Rattle.std.specs.Prelude.{ℕ, leb, Result, Ok, Err}
 use Rattle.prices.specs.Price.{is_present, none_or_price, none_or_ticked}
 use Rattle.refusals.specs.declared.Refusal.{Refusal}
@@ -19,6 +19,10 @@ number refusal.Volume = 7
 number refusal.Position = 8
 number refusal.Unpriced = 9
 number refusal.Lists = 10
+
+-- no two refusals have one number, so that a number says which one it is: proved in proofs/Numbers.antt
+abbrev pub OwnNumbers : Type 0
+OwnNumbers = (r s : Refusal) → number r ≡ number s → r ≡ s
 
 -- the number that an answer stands for: 01, "A refused call returns its number", 0 where it is accepted
 abbrev pub number_of : {A : Type 0} → Result A Refusal → ℕ

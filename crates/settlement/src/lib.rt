@@ -44,13 +44,7 @@ pub fn clamp(rate: i64, terms: Terms) -> i64
 {
     let least = -i64::from(terms.below);
     let largest = i64::from(terms.above);
-    if rate < least {
-        return least;
-    }
-    if largest < rate {
-        return largest;
-    }
-    rate
+    rate.clamp(least, largest)
 }
 
 // The amount of one contract. The product has to fit 64 bits, and at the rate 0 price × size too: at the largest clamp of
@@ -89,7 +83,7 @@ pub fn settlement_price(set: u32, traded: FinalMinute, index: u32, previous: Pre
         return set;
     }
     if traded.contracts != 0 {
-        return integers::half_even(traded.gross as i64, traded.contracts as i64) as u32;
+        return integers::half_even(traded.gross as i64, i64::from(traded.contracts)) as u32;
     }
     index_price(index, previous)
 }

@@ -18,7 +18,7 @@ pub struct Window<'a> {
     pub at: usize,
 }
 
-// Copies as much of a text as fits over the front of a buffer.
+// Copies as much of a text as fits over the front of a buffer, which is lent, since no heap is used.
 fn copy_over(text: &[u8], out: &mut [u8])
     ensures { out.new ≡ over text.now out.old }
 {

@@ -12,26 +12,21 @@ use Rattle.integers.specs.Rounding.{nearest, half_even}
 use Rattle.integers.proofs.Rounding.{nearest_le}
 use Rattle.prices.specs.Price.{largest_price}
 use Rattle.settlement.proofs.settlement_price.Goals as goal
-use Rattle.settlement.proofs.settlement_price.Goals.{After-half_even, After-struct_known-then-traded-ne0-2-1}
+use Rattle.settlement.proofs.settlement_price.Goals.{After-half_even}
 
--- the final minute's contracts, where there are some
-module _ (c : After-struct_known-then-traded-ne0-2-1) where
+module _ (c : After-half_even) where
+  -- the final minute's contracts, of which there are some
   some : 0 < c.args.traded.contracts
   some = omega (arith, c.if-traded-ne0.true)
-
-  contracts_fit : c.args.traded.contracts < 2 ^ 63
-  contracts_fit = omega arith
 
   gross_fits : c.args.traded.gross < 2 ^ 63
   gross_fits = omega (arith, c.requires)
 
-average_is : (c : After-half_even) → let t = c.args.traded in to_z w64 (of_z w64 c.half_even.result) ≡ pos (nearest Even t.gross t.contracts)
-average_is c =
-    let k = c.before in
-    to_z-of_z {w = w64} (record { sfits = c.half_even.type_inv }) ∙ c.half_even.ensures ∙ ap₂ (λ x d. half_even x (nat_abs d)) (to_z_pos w64 (gross_fits k)) (to_z_pos w64 (contracts_fit k))
+  average_is : let t = c.args.traded in to_z w64 (of_z w64 c.half_even.result) ≡ pos (nearest Even t.gross t.contracts)
+  average_is =
+      to_z-of_z {w = w64} (record { sfits = c.half_even.type_inv }) ∙ c.half_even.ensures ∙ ap₂ (λ x d. half_even x (nat_abs d)) (to_z_pos w64 gross_fits) (to_z-of_z {w = w64} (record { sfits = c.from.type_inv }) ∙ c.from.ensures)
 
 pub overflow_cast-result : goal.overflow_cast-result
 overflow_cast-result c =
-    let s = c.before.before.before.before.before.before in
-    let t = s.args.traded in
-    rw (average_is c) (tt, record { fits = omega (arith, nearest_le Even t.gross t.contracts largest_price (some c.before) s.requires) })
+    let t = c.args.traded in
+    rw (average_is c) (tt, record { fits = omega (arith, nearest_le Even t.gross t.contracts largest_price (some c) c.requires) })

@@ -1,31 +1,25 @@
 -- `counterparties::effects::exchange` meets its contract: neither entry leaves 64 bits, the seller's being read after the buyer's is written.
-use mathlib.Core.List.{◌∷◌, []}
-use Prim.Native.Nat.{◌+◌, ◌≤◌}
+use mathlib.Core.List.{List, ◌∷◌, []}
+use Prim.Native.Nat.{ℕ, ◌+◌, ◌≤◌}
 use native.Mathlib.Omega.{arith}
-use lib.IntN.{pos, nat_abs}
-use Rattle.integers.proofs.Overflow.{Op, arg, add, sub, val, nat, Within, ◌▹◌, done, runs}
+use lib.IntN.{ℤ, pos, nat_abs}
+use Rattle.calls.specs.declared.Trade.{Trade}
+use Rattle.integers.proofs.Overflow.{arg, add, sub, val, nat, Within, ◌▹◌, done, runs}
 use Rattle.columns.specs.Columns.{entry, raise}
-use Rattle.counterparties.specs.Inner.{most_entry, most_moved}
+use Rattle.counterparties.specs.Inner.{most_entry, most_moved, Exchangeable}
 use Rattle.counterparties.proofs.Raised.{entry_raised}
 use Rattle.counterparties.proofs.effects.exchange.Goals as goal
-use Rattle.counterparties.proofs.effects.exchange.Goals.{After-column-2-1, Start}
 
-buying : (s : After-column-2-1) → Within (val (entry s.args.column.now s.args.t.buyer) ∷ nat s.args.amount ∷ []) (most_entry ∷ most_moved ∷ [])
-buying s = s.requires.0.buyer ▹ s.requires.1 ▹ done
+module _ {l : List ℤ} {t : Trade} {amount : ℕ} (p : Exchangeable l t most_entry) (most : amount ≤ most_moved) where
+  buying : Within (val (entry l t.buyer) ∷ nat amount ∷ []) (most_entry ∷ most_moved ∷ [])
+  buying = p.buyer ▹ most ▹ done
 
-selling :
-    (s : Start) → Within (val (entry (raise s.args.column.now s.args.t.buyer (pos s.args.amount)) s.args.t.seller) ∷ nat s.args.amount ∷ []) ((most_entry + most_moved) ∷ most_moved ∷ [])
-selling s =
-    let t = s.args.t in
-    let l = s.args.column.now in
-    let h : nat_abs (entry (raise l t.buyer (pos s.args.amount)) t.seller) ≤ most_entry + most_moved = omega (arith, s.requires.0.seller, s.requires.1, entry_raised l t.buyer t.seller (pos s.args.amount)) in
-    h ▹ s.requires.1 ▹ done
-
-abbrev bought : Op
-bought = add (arg 0) (arg 1)
-
-abbrev sold : Op
-sold = sub (arg 0) (arg 1)
+  selling : Within (val (entry (raise l t.buyer (pos amount)) t.seller) ∷ nat amount ∷ []) ((most_entry + most_moved) ∷ most_moved ∷ [])
+  selling =
+      let raised : nat_abs (entry (raise l t.buyer (pos amount)) t.seller) ≤ most_entry + most_moved = omega (arith, p.seller, most, entry_raised l t.buyer t.seller (pos amount)) in
+      raised ▹ most ▹ done
 
 pub returns : goal.returns
-returns c = let s = c.before.before.before.before in rw (runs (buying c) bought tt, runs (selling s) sold tt)
+returns c =
+    let p = c.requires in
+    rw (c.from-i.ensures, c.from-j.ensures, runs (buying p.0 p.1) (add (arg 0) (arg 1)) tt, runs (selling p.0 p.1) (sub (arg 0) (arg 1)) tt)

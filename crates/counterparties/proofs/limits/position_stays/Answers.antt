@@ -10,37 +10,33 @@ use mir.Val.{Fits}
 use borrow.Author.Rules.{rules}
 use Rattle.integers.proofs.Laws.{add_is, neg_up, neg_dn}
 use Rattle.integers.proofs.Order.{size, apart, not_above, not_below}
-use Rattle.integers.proofs.Overflow.{arg, add, sub, val, nat, Within, ◌▹◌, done, runs}
+use Rattle.integers.proofs.Overflow.{arg, add, sub, val, Within, ◌▹◌, done, runs}
 use Rattle.integers.proofs.Tests.{by_test}
 use Rattle.columns.specs.Columns.{entry}
 use Rattle.columns.specs.Limits.{most_position}
 use Rattle.counterparties.proofs.Raised.{buyer_entry, seller_entry}
 use Rattle.counterparties.proofs.limits.position_stays.Goals as goal
-use Rattle.counterparties.proofs.limits.position_stays.Goals.{After-sold-1}
-
-limits : (c : After-sold-1) → let s = c.before.before.before in
-    Within (val (entry s.args.position.now s.args.t.buyer) ∷ val (entry s.args.position.now s.args.t.seller) ∷ nat c.moves-moved.result ∷ []) (most_position ∷ most_position ∷ 4294967295 ∷ [])
-limits c =
-    let s = c.before.before.before in
-    let t = s.args.t in
-    let f : Fits w32 t.quantity = search rules in
-    let h : c.moves-moved.result ≤ 4294967295 = rw c.moves-moved.ensures (by_test (eqb t.buyer t.seller) (λ n. n ≤ 4294967295) (λ e. omega arith) (λ e. omega arith)) in
-    s.requires.buyer ▹ s.requires.seller ▹ h ▹ done
 
 pub returns : goal.returns
 returns c =
     let l = c.args.position.now in
     let t = c.args.t in
     let p = c.requires in
-    let q = pos c.moves-moved.result in
+    let q = pos c.moves.result in
     let b = entry l t.buyer in
     let a = entry l t.seller in
+    let quantity : Fits w32 t.quantity = search rules in
+    let moved : c.moves.result ≤ 4294967295 = rw c.moves.ensures (by_test (eqb t.buyer t.seller) (λ n. n ≤ 4294967295) (λ e. omega arith) (λ e. omega arith)) in
+    let within : Within (val b ∷ val a ∷ val q ∷ []) (most_position ∷ most_position ∷ 4294967295 ∷ []) = p.buyer ▹ p.seller ▹ moved ▹ done in
     rw (
-      runs (limits c) (add (arg 0) (arg 2)) tt,
-      runs (limits c) (sub (arg 1) (arg 2)) tt,
+      c.from-i.ensures,
+      c.from-j.ensures,
+      c.from-moved.ensures,
+      runs within (add (arg 0) (arg 2)) tt,
+      runs within (sub (arg 1) (arg 2)) tt,
       not_above (b +ℤ q) most_position (omega (arith, p.buyer, size b, add_is b q, apart (b +ℤ q))),
       not_below (a -ℤ q) most_position (omega (arith, p.seller, size a, add_is a (neg_ℤ q), neg_up q, neg_dn q, apart (a -ℤ q))),
-      c.moves-moved.ensures,
+      c.moves.ensures,
       buyer_entry l t.buyer t.seller t.quantity p.buyer_in p.seller_in,
       seller_entry l t.buyer t.seller t.quantity p.buyer_in p.seller_in,
     )
