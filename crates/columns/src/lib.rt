@@ -15,7 +15,7 @@ pub const ACCOUNTS: usize = 256;
 
 pub const MOST_VOLUME: u32 = 2_000_000;
 
-pub const MOST_POSITION: u64 = 1_200_000;
+pub const MOST_POSITION: i64 = 1_200_000;
 // What an account's cash may rise or fall by in a day.
 pub const MOST_POSTING: u64 = 2_700_000_000_000_000;
 
@@ -33,9 +33,7 @@ pub struct Account {
 fn position_holds(position: i64) -> bool
     ensures { result ≡ within position most_position }
 {
-    // `as`: a constant below 2^63.
-    let most = MOST_POSITION as i64;
-    (-most..=most).contains(&position)
+    (-MOST_POSITION..=MOST_POSITION).contains(&position)
 }
 
 impl Account {

@@ -46,7 +46,5 @@ pub fn position_stays(position: &[i64; ACCOUNTS], t: Trade) -> bool
     let moved = i64::from(moves(t));
     let bought = position[i] + moved;
     let sold = position[j] - moved;
-    // `as`: a constant below 2^63.
-    let most = MOST_POSITION as i64;
-    (bought <= most) & (0 - most <= sold)
+    (bought <= MOST_POSITION) & (-MOST_POSITION <= sold)
 }

@@ -53,7 +53,7 @@ pub fn amount(rate: i64, price: u32, size: u32, tie: Tie) -> i64
     requires { (nat_abs rate * (price * size) < 2 ^ 63) × (price * size < 2 ^ 63) }
     ensures { result ≡ amount_of tie rate price size }
 {
-    let scale = (u64::from(price) * u64::from(size)) as i64;
+    let scale = i64::from(price) * i64::from(size);
     integers::rounded(0 - rate * scale, AMOUNT_SCALE, tie)
 }
 
