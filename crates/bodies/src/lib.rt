@@ -9,10 +9,10 @@ use calls::{Call, Kind, Trade};
 use funding::market::Market;
 use tags::Tag;
 
-// Here and in the crates that read a file, a file and a place in it are two values: the definitions count places from the file's start,
-// as a reader of the bytes does, and a slice of what is left would lose them.
+// Here and in the crates that read a file, a file and a place in it are two values: the definitions count places from the file's
+// start, which a slice of what is left would lose, and a struct of both would only be taken apart in each function.
 // Numbers of two and of four bytes, which are required to lie within the file, as each body below is, whatever its length. They are
-// no one function over the width: that would name an array's length by an expression.
+// no one function over the width, which would be longer than these two.
 pub fn two_bytes(file: &[u8], at: usize) -> u16
     requires { at + 2 ≤ length file.now }
     ensures { result ≡ two_bytes file.now at }

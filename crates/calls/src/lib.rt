@@ -23,7 +23,8 @@ pub enum Kind {
     // spread against spread
     Spread,
     Block,
-    // a number that stands for no kind, which no accepted trade has
+    // A number that stands for no kind. It is no Option: a body with such a number is a trade as well, which refusal 5 meets in its
+    // place among the refusals.
     Other,
 }
 
@@ -56,7 +57,7 @@ pub enum Call {
     Trade(Trade),
     Halt,
     Resume,
-    // The index of the minute, and the set price: 0 where there is none, and no Option, as document 01 writes it.
+    // The index of the minute, and the set price: 0 for none and no Option, as a market's sides are.
     MinuteEnd(u32),
     Fix(u32),
     Close,

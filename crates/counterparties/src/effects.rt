@@ -14,10 +14,10 @@ pub fn exchange(column: &mut [i64; ACCOUNTS], t: Trade, amount: u64)
 {
     let i = usize::from(t.buyer);
     let j = usize::from(t.seller);
-    // `as`: what is moved is below 2^63.
+    // `as`: what is moved is below 2^63, `From` doesn't narrow, and `TryFrom` would have a branch that never comes.
     let z = amount as i64;
-    column[i] = column[i] + z;
-    column[j] = column[j] - z;
+    column[i] += z;
+    column[j] -= z;
 }
 
 // Raises the v of both accounts. It is no `exchange` of another type: both entries rise.
@@ -27,6 +27,6 @@ pub fn count(volume: &mut [u32; ACCOUNTS], t: Trade)
 {
     let i = usize::from(t.buyer);
     let j = usize::from(t.seller);
-    volume[i] = volume[i] + t.quantity;
-    volume[j] = volume[j] + t.quantity;
+    volume[i] += t.quantity;
+    volume[j] += t.quantity;
 }

@@ -41,7 +41,7 @@ pub struct Trades {
     pub settling: FinalMinute,
 }
 
-// What a fix sets. A price of 0 means that the day isn't fixed.
+// What a fix sets. A price of 0 means that the day isn't fixed, as `Day` says.
 #[derive(Clone, Copy, Default)]
 pub struct Fixed {
     pub price: u32,
@@ -57,8 +57,7 @@ pub struct Session {
     pub begun: bool,
 }
 
-// The day's figures, which a close empties. A price, an index or a side is 0 where there is none, and no Option: document 01 and
-// its limits name the number 0.
+// The day's figures, which a close empties. A price, an index or a side is 0 for none and no Option, as a market's sides are.
 #[derive(Clone, Copy)]
 pub struct Day {
     pub fixed: Fixed,
@@ -139,7 +138,7 @@ impl Day {
             & none_or_price(self.minutes.index)
             & none_or_price(self.fixed.price)
             & is_within(self.fixed.amount, MOST_AMOUNT);
-        let fix = !(self.fixed.price != 0) | (self.minutes.ended == self.session.length);
+        let fix = (self.fixed.price == 0) | (self.minutes.ended == self.session.length);
         let start = self.session.begun
             | ((self.session.length == FULL_DAY) & (self.minutes.ended == 0));
         self.minutes_hold() & self.markets.holds() & prices & fix & start

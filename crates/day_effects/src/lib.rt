@@ -66,6 +66,7 @@ pub fn traded(day: Day, t: Trade) -> Day
     after
 }
 
+// Here and below the index of a minute stands beside whether it is valid, and in no Option: it may be the day's index either way.
 // The weighted sum after a minute, valid or not.
 fn weighted_after(day: Day, valid: bool, index: u32) -> i64
     requires { Endable day valid index }

@@ -30,7 +30,7 @@ pub struct Figures {
 // What a fix finds and prints.
 #[derive(Clone, Copy, Debug, PartialEq, Eq)]
 pub struct Fixing {
-    // the settlement price, 0 where no rule gives one: document 01 and its limits count it so, and refusal 9 is of that number
+    // the settlement price, 0 where refusal 9 comes
     pub price: u32,
     // the clamped rate
     pub rate: i64,
@@ -51,7 +51,7 @@ impl Figures {
             size,
             closed: 0,
             halted: false,
-            previous: Previous { price: 0, index: 0 },
+            previous: Previous::default(),
             day: Day::empty(),
         }
     }

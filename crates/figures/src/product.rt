@@ -7,8 +7,8 @@ use crate::Figures;
 use funding::Terms;
 use refusals::Refusal;
 
-// A product, by its contract size in hundredths of a coin. It is a size and no enum, as document 01 has it: a book may be made with
-// any size, which its limits then refuse.
+// A product, by its contract size in hundredths of a coin. It is that size and no enum: a size is all that a book keeps of it and
+// all that its users ask it for.
 #[derive(Clone, Copy, Debug, PartialEq, Eq)]
 pub struct Product {
     pub size: u32,
@@ -63,10 +63,7 @@ impl Product {
     pub fn opening(size: u32) -> Result<Figures, Refusal>
         ensures { opening_of result ≡ opened size }
     {
-        match size {
-            Product::HUNDREDTH => Ok(Figures::fresh(Product::hundredth().size)),
-            Product::TENTH => Ok(Figures::fresh(Product::tenth().size)),
-            _ => Err(Refusal::Field),
-        }
+        Refusal::Field.when(!Product::is_size(size))?;
+        Ok(Figures::fresh(size))
     }
 }

@@ -23,7 +23,8 @@ pub struct Terms {
     pub spread: u16,
 }
 
-// The basis of a futures price against an index. An index of 0 means no sample, which has no basis: callers test it first.
+// The basis of a futures price against an index. An index of 0 means no sample (market.rt), which has no basis: callers test it
+// first.
 pub fn basis(futures: u32, index: u32) -> i64
     requires { 0 < index }
     ensures { result ≡ basis_of futures index }

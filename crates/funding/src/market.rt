@@ -6,7 +6,8 @@ ghost use Rattle.funding.specs.Market.{two_sided, uncrossed, as_minute, is_valid
 use crate::Terms;
 use prices::none_or_ticked;
 
-// A market, or one side of it. A side that doesn't stand is 0, and no Option: document 01 and its limits name the number 0.
+// A market, or one side of it. A side that doesn't stand is 0 and no Option: the bytes of a quote and document 01's limits have that
+// number, and an Option would be made and taken apart at each of them.
 #[derive(Clone, Copy, Default, PartialEq, Eq)]
 pub struct Market {
     pub bid: u32,
@@ -45,19 +46,18 @@ impl Market {
         20_000 * (a - b) <= u64::from(terms.spread) * (a + b)
     }
 
-    // The futures price F of a minute that ends with this market, after this last trade, 0 for none, as document 01 writes it.
+    // The futures price F of a minute that ends with this market, after this last trade. It is 0 for none, as a side is.
     pub fn futures_price(self, last: u32) -> u32
         ensures { result ≡ futures_price self.bid self.offer last }
     {
         if (last != 0) & (self.bid <= last) & (last <= self.offer) {
             last
         } else {
-            // `as`: the mean of two numbers of 32 bits.
-            ((u64::from(self.bid) + u64::from(self.offer)) / 2) as u32
+            self.bid.midpoint(self.offer)
         }
     }
 
-    // Whether the minute that ends with this market and this index, 0 for none as above, is valid.
+    // Whether the minute that ends with this market and this index is valid. An index is 0 for none, as a side is.
     pub fn is_valid(self, halted: bool, index: u32, terms: Terms) -> bool
         ensures { result ≡ is_valid terms halted self index }
     {
@@ -82,6 +82,6 @@ impl Market {
     pub fn holds_minute(self) -> bool
         ensures { result ≡ minute_market_holds self }
     {
-        self.holds() & (self.is_two_sided() | ((self.bid == 0) & (self.offer == 0)))
+        self.holds() & (self.is_two_sided() | (self == Market::default()))
     }
 }

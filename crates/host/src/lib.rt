@@ -24,6 +24,7 @@ pub extern "C" fn funding_run(size: u8, file: &[u8], positions: &mut [i64], cash
     let Ok(mut checked) = CheckedBook::opening(u32::from(size)) else {
         return 0;
     };
+    // No report by the book: the lists are looked at before the run, and the limits of this book are kept.
     if (positions.len() != ACCOUNTS) | (cash.len() != ACCOUNTS) {
         return 0;
     }

@@ -65,7 +65,7 @@ pub fn empty_book() -> Book {
             size: 10,
             closed: 0,
             halted: false,
-            previous: Previous { price: 0, index: 0 },
+            previous: Previous::default(),
             day: Day {
                 markets: Markets::default(),
                 minutes: Minutes::default(),

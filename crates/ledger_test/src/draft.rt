@@ -23,12 +23,10 @@ enum Field {
 
 // The one that has this name.
 fn find_named<T: Copy>(named: &[(T, &'static str)], text: &str) -> Option<T> {
-    for (item, name) in named {
-        if *name == text {
-            return Some(*item);
-        }
-    }
-    None
+    named
+        .iter()
+        .find(|(_, name)| *name == text)
+        .map(|(item, _)| *item)
 }
 
 impl FromStr for Field {

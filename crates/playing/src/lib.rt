@@ -15,7 +15,7 @@ use refusals::Refusal;
 // The lines of one record that prints.
 #[derive(Clone, Copy, Debug, PartialEq, Eq)]
 pub enum Printed {
-    // refused NUMBER record PLACE. The number stands here and not its refusal, since nothing but the line looks at it.
+    // refused NUMBER record PLACE. The number stands here and not its refusal: the definitions of the printout know numbers alone.
     Refused { number: u8, place: u64 },
     // day DAY price P rate R amount A valid K
     Day { day: u64, fixing: Fixing },

@@ -119,7 +119,8 @@ pub fn day_length(closed: u32, forbidden: bool, minutes: u32) -> Result<(), Refu
     first_sentences(closed, forbidden, false, !is_length(minutes))
 }
 
-// The refusal of a fix where the price that it finds is this one. Both prices are 0 where there is none, as document 01 writes them.
+// The refusal of a fix where the price that it finds is this one. The set price is 0 for none, as in its call, and the other one 0
+// where refusal 9 comes.
 pub fn fix(closed: u32, forbidden: bool, set: u32, price: u32) -> Result<(), Refusal>
     ensures { number_of result ≡ refusal_by closed forbidden false price (Call.Fix set) }
 {

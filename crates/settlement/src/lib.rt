@@ -1,6 +1,7 @@
 // The fix of the exchange's funding methodology (document 001): rate, clamp, amount and settlement price, in whole numbers.
 // A price is in cents, a rate in nano (10^-9), an amount in whole cents per contract, a size in hundredths of a coin. A price or an
-// index of 0 is none, and no Option, as document 01 writes it. `as` turns what is shown to fit.
+// index of 0 is none and no Option, as a market's sides are. `as` turns what is shown to fit: `From` doesn't narrow, and `TryFrom`
+// would have a branch that never comes.
 #![tactic(auto)]
 
 ghost use Rattle.std.specs.Prelude.{◌≡◌, ◌*◌, ◌<◌, ◌≤◌, ◌^◌, nat_abs};
@@ -21,7 +22,7 @@ pub struct FinalMinute {
 }
 
 // The settlement price and the index of the closed day before, 0 without one.
-#[derive(Clone, Copy)]
+#[derive(Clone, Copy, Default)]
 pub struct Previous {
     pub price: u32,
     pub index: u32,
@@ -54,7 +55,7 @@ pub fn amount(rate: i64, price: u32, size: u32, tie: Tie) -> i64
     ensures { result ≡ amount_of tie rate price size }
 {
     let scale = i64::from(price) * i64::from(size);
-    integers::rounded(0 - rate * scale, AMOUNT_SCALE, tie)
+    integers::rounded(-(rate * scale), AMOUNT_SCALE, tie)
 }
 
 // Day's index + previous price − previous index where it is a price, or 0.
@@ -73,7 +74,8 @@ fn index_price(index: u32, previous: Previous) -> u32
     }
 }
 
-// The settlement price by its three rules in order, or 0 where none gives one. What contracts of the final minute were
+// The settlement price by its three rules in order, or 0 where none gives one: no Option, since an average below a half is 0 too,
+// and refusal 9 is of both. What contracts of the final minute were
 // traded for has to be at most what they cost at the largest price: their average is then no larger than a price.
 pub fn settlement_price(set: u32, traded: FinalMinute, index: u32, previous: Previous) -> u32
     requires { traded.gross ≤ largest_price * traded.contracts }
