@@ -1,6 +1,6 @@
 -- Entries of a column after one or two of them are raised.
---     entry_raised, count_raised     how far an entry rises where one is raised
---     buyer_entry, seller_entry, buyer_count, seller_count     those of a trade's two accounts, which may be one
+--     entry_raised   how far an entry rises where one is raised
+--     buyer_entry, seller_entry     those of a trade's two accounts, which may be one
 --     untouched      those of the other accounts;  of_each  what holds of all three holds of each
 --     cost_raised    a cost within its contracts at the largest price stays so
 -- Assumes nothing.
@@ -35,9 +35,6 @@ pub entry_raised : (l : List ℤ) (j i : ℕ) (z : ℤ) → nat_abs (entry (rais
 entry_raised l j i z =
     ⊎_elim (λ w. omega (arith, ap nat_abs (w.1 ∙ ap (λ k. entry l k +ℤ z) (sym w.0)), abs_add (entry l i) z)) (λ w. omega (arith, ap nat_abs w)) (stored l j i (entry l j +ℤ z) (pos 0))
 
-pub count_raised : (l : List ℕ) (j i q : ℕ) → count_at (raise_count l j q) i ≤ count_at l i + q
-count_raised l j i q = ⊎_elim (λ w. omega (arith, w.1, ap (count_at l) w.0)) (λ w. omega (arith, w)) (stored l j i (count_at l j + q) 0)
-
 -- a cost within the contracts at the largest price stays so where both are raised
 pub cost_raised : (l : List ℤ) (v : List ℕ) (j i q : ℕ) (z : ℤ) → j < length l → j < length v → nat_abs z ≤ q * largest_price → nat_abs (entry l i) ≤ count_at v i * largest_price → nat_abs (entry (raise l j z) i) ≤ count_at (raise_count v j q) i * largest_price
 cost_raised l v j i q z hl hv hz h =
@@ -56,25 +53,6 @@ by_accounts b s P f g = go (eqb b s) refl
     go : (t : Bool) → eqb b s ≡ t → P t
     go true e = f (eqb-true b s e)
     go false e = g (eqb-false b s e)
-
-module _ (l : List ℕ) (b s q : ℕ) (hb : b < length l) (hs : s < length l) where
-  twice : (i : ℕ) → i < length l → count_at (raise_count (raise_count l i q) i q) i ≡ count_at l i + (q + q)
-  twice i h =
-      get_or-set_same (raise_count l i q) i (count_at (raise_count l i q) i + q) 0 (rw length-set h)
-      ∙ ap (λ n. n + q) (get_or-set_same l i (count_at l i + q) 0 h) ∙ omega arith
-
-  pub buyer_count : count_at (raise_count (raise_count l b q) s q) b ≡ count_at l b + cond (eqb b s) (q + q) q
-  buyer_count =
-      by_accounts b s (λ t. count_at (raise_count (raise_count l b q) s q) b ≡ count_at l b + cond t (q + q) q)
-      (λ e. subst (λ (i : ℕ). count_at (raise_count (raise_count l b q) i q) b ≡ count_at l b + (q + q)) e (twice b hb))
-      (λ f. get_or-set_other (raise_count l b q) s b (count_at (raise_count l b q) s + q) 0 f ∙ get_or-set_same l b (count_at l b + q) 0 hb)
-
-  pub seller_count : count_at (raise_count (raise_count l b q) s q) s ≡ count_at l s + cond (eqb b s) (q + q) q
-  seller_count =
-      by_accounts b s (λ t. count_at (raise_count (raise_count l b q) s q) s ≡ count_at l s + cond t (q + q) q)
-      (λ e. subst (λ (i : ℕ). count_at (raise_count (raise_count l i q) s q) s ≡ count_at l s + (q + q)) (sym e) (twice s hs))
-      (λ f. get_or-set_same (raise_count l b q) s (count_at (raise_count l b q) s + q) 0 (rw length-set hs)
-      ∙ ap (λ n. n + q) (get_or-set_other l b s (count_at l b + q) 0 (λ e. f (sym e))))
 
 module _ (l : List ℤ) (b s : ℕ) (q : ℕ) (hb : b < length l) (hs : s < length l) where
   back : (i : ℕ) → i < length l → entry (raise (raise l i (pos q)) i (neg_ℤ (pos q))) i ≡ entry l i
