@@ -11,7 +11,7 @@ use figures::product::Product;
 use refusals::Refusal;
 
 // Any call on a book within its limits.
-fn step(book: &mut Book, call: Call) -> Outcome
+pub(crate) fn step(book: &mut Book, call: Call) -> Outcome
     requires { WithinLimits accounts book.old }
     ensures { answer_of result book.new ≡ step accounts book.old call }
 {

@@ -10,7 +10,7 @@ ghost use Rattle.ledger.specs.Step.{opening as Step·opening};
 ghost use Rattle.ledger.specs.Step.{step as Step·step};
 
 use calls::{Call, Trade};
-use checked::CheckedBook;
+use checked::step;
 use columns::{ACCOUNTS, Columns};
 use figures::product::Product;
 use figures::{Figures, Outcome};
@@ -75,7 +75,7 @@ impl Book {
     }
 
     // Any call.
-    pub fn step(self, call: Call) -> Answer
+    pub fn step(mut self, call: Call) -> Answer
         ensures { answer_of result.outcome result.book ≡ Step·step accounts self call }
     {
         if !self.is_within_limits() {
@@ -84,11 +84,10 @@ impl Book {
                 book: self,
             };
         }
-        let mut checked = CheckedBook { book: self };
-        let outcome = checked.step(call);
+        let outcome = step(&mut self, call);
         Answer {
             outcome,
-            book: checked.book,
+            book: self,
         }
     }
 
