@@ -13,11 +13,11 @@ use mir.Val.{SFits, to_z, of_z}
 use mir.Facts.{to_z-of_z}
 use borrow.Author.Tests.{ltb-true, eqb-true}
 use Rattle.integers.specs.Rounding.{with_sign_of, on_tie}
-use Rattle.integers.proofs.Order.{size, fits_abs, lt_to, <ℤ-weaken}
-use Rattle.integers.proofs.Machine.{bits_pos, quot_fits, rem_fits, rem_lt, quot_rem_size, as_unsigned}
+use Rattle.integers.proofs.Order.{size, fits_abs, lt_to}
+use Rattle.integers.proofs.Machine.{bits_pos, quot_fits, rem_fits, rem_lt, quot_rem_size}
 use Rattle.integers.proofs.Rounding.{stays, goes_on}
 use Rattle.integers.proofs.rounded.Goals as goal
-use Rattle.integers.proofs.rounded.Goals.{After-unsigned_abs-size, After-tie_goes_on, Start, Then-goes_on}
+use Rattle.integers.proofs.rounded.Goals.{After-unsigned_abs-size, After-unsigned_abs, After-tie_goes_on, Start, Then-goes_on}
 
 module _ (s : Start) where
   x_back : to_z w64 (of_z w64 s.args.x) ≡ s.args.x
@@ -59,6 +59,10 @@ size_is c = c.unsigned_abs-size.ensures.value ∙ ap nat_abs (ap₂ (λ x d. to_
 size_below : (c : After-unsigned_abs-size) → c.unsigned_abs-size.result < nat_abs c.args.d
 size_below c = rw (size_is c) (rem_lt c.args.x c.args.d (d_size c.before))
 
+-- the divisor's size
+divisor_is : (c : After-unsigned_abs) → c.unsigned_abs.result ≡ nat_abs c.args.d
+divisor_is c = c.unsigned_abs.ensures.value ∙ ap nat_abs (d_back c.before.before)
+
 -- what `farther` gives, after any of its two calls
 farther_is : (s : Start) {q x r : ℤ} → SFits w64 r → q ≡ quot_z s.args.x s.args.d → x ≡ s.args.x → r ≡ q +ℤ with_sign_of x 1 → to_z w64 (of_z w64 r) ≡ quot_z s.args.x s.args.d +ℤ with_sign_of s.args.x 1
 farther_is s f e g h = to_z-of_z f ∙ h ∙ ap₂ (λ q x. q +ℤ with_sign_of x 1) e g
@@ -69,15 +73,12 @@ nonzero_div-q c = rw (x_back c, d_back c) (bits_pos w64 c.requires, q_fits c)
 pub nonzero_rem-r : goal.nonzero_rem-r
 nonzero_rem-r c = nonzero_div-q c
 
-pub overflow_cast-left : goal.overflow_cast-left
-overflow_cast-left c = rw (d_back c.before) (as_unsigned (<ℤ-weaken c.requires) c.ranges.d)
-
 pub overflow_sub-left : goal.overflow_sub-left
-overflow_sub-left c = rw (d_back c.before) (omega (arith, size_below c))
+overflow_sub-left c = omega (arith, divisor_is c, size_below c.before)
 
 module _ (c : After-tie_goes_on) where
   abbrev start : Start
-  start = c.before.before
+  start = c.before.before.before
 
   abbrev quotient : ℕ
   quotient = nat_abs (quot_z start.args.x start.args.d)
@@ -89,19 +90,19 @@ module _ (c : After-tie_goes_on) where
   left = nat_abs start.args.d - rest
 
   left_is : left + rest ≡ nat_abs start.args.d
-  left_is = omega (arith, size_is c.before, size_below c.before)
+  left_is = omega (arith, size_is c.before.before, size_below c.before.before)
 
   tie_is : on_tie start.args.tie quotient ≡ quotient + cond c.tie_goes_on.result 1 0
   tie_is = rw (q_is start) at c.tie_goes_on.ensures
 
-  abbrev goes : ℤ → ℕ → Bool
-  goes d r = ltb (nat_abs d - r) r || (eqb (nat_abs d - r) r && c.tie_goes_on.result)
+  abbrev goes : ℕ → ℕ → Bool
+  goes d r = ltb (d - r) r || (eqb (d - r) r && c.tie_goes_on.result)
 
   -- what the machine tests
-  test_is : goes (to_z w64 (of_z w64 start.args.d)) c.unsigned_abs-size.result ≡ goes start.args.d rest
-  test_is = ap₂ goes (d_back start) (size_is c.before)
+  test_is : goes c.unsigned_abs.result c.unsigned_abs-size.result ≡ goes (nat_abs start.args.d) rest
+  test_is = ap₂ goes (divisor_is c.before) (size_is c.before.before)
 
-goes_is : (c : Then-goes_on) → let a = c.before in goes a (start a).args.d (rest a) ≡ true
+goes_is : (c : Then-goes_on) → let a = c.before in goes a (nat_abs (start a).args.d) (rest a) ≡ true
 goes_is c = sym (test_is c.before) ∙ c.if-goes_on.true
 
 reached : (l r d : ℕ) (g : Bool) → ltb l r || (eqb l r && g) ≡ true → l + r ≡ d → d ≤ 2 * r
