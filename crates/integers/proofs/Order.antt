@@ -1,21 +1,20 @@
 -- The order of ℤ, sizes (`nat_abs`) and fits, each tied to `up` and `dn`, so that `omega` decides them.
 --     ints       `omega ints` reads `x ≤ℤ y`, `x <ℤ y`, `x ≡ y` and `SFits w64 z` in reach as facts of `up` and `dn`, and proves the first three and `SFits w64 z`
 --     size z     nat_abs z is up z + dn z; `apart z`: one of the two is 0
---     not_above, not_below, between     the tests of a limit
+--     not_above, not_below     the tests of a limit
 -- Assumes nothing.
 use mathlib.Core.Path.{◌≡◌, refl, sym, ◌∙◌, ap, subst}
-use mathlib.Core.Bool.{Bool, true, false, ◌&&◌, and-true}
-use mathlib.Core.Logic.{◌⊎◌, inl, inr}
+use mathlib.Core.Bool.{true, false}
 use Prim.Native.Nat.{ℕ, zero, suc, ◌+◌, ◌*◌, ◌<◌, ◌≤◌, ◌^◌, min}
 use native.Mathlib.Nat.{mul-le-mul_left, mul-le-mul_right}
 use native.Mathlib.Omega.{arith}
 use borrow.Author.Tests.{ltb-true, ltb-false, leb-true, leb-false, lt-ltb, le-ltb, le-leb, lt-leb}
 use lib.Dec.{T, leb, leb-suc-suc, leb→le, le→leb, ltb→lt, lt→ltb}
-use lib.IntN.{ℤ, pos, negsuc, neg_ℤ, nat_abs, ◌+ℤ◌, ◌-ℤ◌, ◌*ℤ◌, +ℤ_invr}
+use lib.IntN.{ℤ, pos, negsuc, neg_ℤ, nat_abs, ◌+ℤ◌, ◌-ℤ◌, ◌*ℤ◌}
 use lib.Signed.{◌≤ℤ◌, ◌<ℤ◌, le_z, lt_z}
 use mir.Syntax.{Width, w64}
 use mir.Val.{SFits, hbits}
-use Rattle.integers.proofs.Laws.{up, dn, eq_by, add_is, mul_is, neg_up, neg_dn, sub_zero_eq, *ℤ-distr, neg-*ℤ}
+use Rattle.integers.proofs.Laws.{up, dn, eq_by, add_is, neg_up, neg_dn}
 
 -- ---- the order, as a fact of naturals, and back
 pub le_to : {x y : ℤ} → x ≤ℤ y → up x + dn y ≤ up y + dn x
@@ -138,14 +137,7 @@ abs_mul (negsuc a) (negsuc b) = refl
 pub abs_mul_le : (x y : ℤ) {m n : ℕ} → nat_abs x ≤ m → nat_abs y ≤ n → nat_abs (x *ℤ y) ≤ m * n
 abs_mul_le x y {m} {n} h k = omega (arith, abs_mul x y, mul-le-mul_right (nat_abs y) h, mul-le-mul_left m k)
 
--- |z| ≤ n is -n ≤ z ≤ n
-pub abs_le : (z : ℤ) (n : ℕ) → nat_abs z ≤ n → (neg_ℤ (pos n) ≤ℤ z) × (z ≤ℤ pos n)
-abs_le z n h = (le_by (omega (arith, size z, neg_up (pos n), neg_dn (pos n))), le_by (omega (arith, size z)))
-
-pub le_abs : (z : ℤ) (n : ℕ) → neg_ℤ (pos n) ≤ℤ z → z ≤ℤ pos n → nat_abs z ≤ n
-le_abs z n h k = omega (arith, size z, apart z, neg_up (pos n), neg_dn (pos n), le_to h, le_to k)
-
--- and of tests: the limit above alone, the limit below alone, and both
+-- the test of a limit above alone, and of one below alone, is the size's
 pub not_above : (z : ℤ) (n : ℕ) → dn z ≤ n → le_z z (pos n) ≡ leb (nat_abs z) n
 not_above (pos m) n h = refl
 not_above (negsuc m) n h = sym (le-leb (suc m) n h)
@@ -154,10 +146,6 @@ pub not_below : (z : ℤ) (n : ℕ) → up z ≤ n → le_z (neg_ℤ (pos n)) z 
 not_below (pos m) n h = true_le_z (neg_ℤ (pos n)) (pos m) (omega (arith, neg_up (pos n), neg_dn (pos n))) ∙ sym (le-leb m n h)
 not_below (negsuc m) zero h = sym (lt-leb (suc m) 0 (omega arith))
 not_below (negsuc m) (suc n) h = sym (leb-suc-suc m n)
-
-pub between : (z : ℤ) (n : ℕ) → le_z (neg_ℤ (pos n)) z && le_z z (pos n) ≡ leb (nat_abs z) n
-between (pos m) n = ap (λ t. t && leb m n) (true_le_z (neg_ℤ (pos n)) (pos m) (omega (arith, neg_up (pos n), neg_dn (pos n))))
-between (negsuc m) n = and-true (le_z (neg_ℤ (pos n)) (negsuc m)) ∙ not_below (negsuc m) n (omega arith)
 
 -- ---- fits
 pub sfits_abs : {w : Width} {z : ℤ} → nat_abs z < 2 ^ hbits w → SFits w z
@@ -169,51 +157,3 @@ fits_abs {z = pos n} h = omega arith
 fits_abs {z = negsuc n} h = h.sfits
 
 pub ruleset ints = (arith, le_to, le_by, lt_to, lt_by, eq_to, eq_of, lt_z_true, lt_z_false, le_z_true, le_z_false, true_lt_z, false_lt_z, true_le_z, false_le_z, sfits_abs, fits_abs)
-
--- ---- the laws of the order
-pub ≤ℤ-antisym : {x y : ℤ} → x ≤ℤ y → y ≤ℤ x → x ≡ y
-≤ℤ-antisym h k = omega ints
-
-pub ≤ℤ-trans : {x y z : ℤ} → x ≤ℤ y → y ≤ℤ z → x ≤ℤ z
-≤ℤ-trans h k = omega ints
-
-pub <ℤ-weaken : {x y : ℤ} → x <ℤ y → x ≤ℤ y
-<ℤ-weaken h = omega ints
-
-pub ≤ℤ-add : {x y u v : ℤ} → x ≤ℤ y → u ≤ℤ v → (x +ℤ u) ≤ℤ (y +ℤ v)
-≤ℤ-add {x} {y} {u} {v} h k = omega (ints, add_is x u, add_is y v)
-
-pub ≤ℤ-neg : {x y : ℤ} → x ≤ℤ y → neg_ℤ y ≤ℤ neg_ℤ x
-≤ℤ-neg {x} {y} h = omega (ints, neg_up x, neg_dn x, neg_up y, neg_dn y)
-
-pub ≤ℤ-mul : {x y : ℤ} (k : ℕ) → x ≤ℤ y → (pos k *ℤ x) ≤ℤ (pos k *ℤ y)
-≤ℤ-mul {x} {y} k h = omega (ints, mul_is (pos k) x, mul_is (pos k) y, mul-le-mul_left k (le_to h))
-
-pub ≤ℤ-or-< : (x y : ℤ) → (x ≤ℤ y) ⊎ (y <ℤ x)
-≤ℤ-or-< x y = go (le_z x y) refl
-  where
-    go : (t : Bool) → le_z x y ≡ t → (x ≤ℤ y) ⊎ (y <ℤ x)
-    go true e = inl (omega ints)
-    go false e = inr (omega ints)
-
--- ---- cancellation
-pub +ℤ-cancel : (x y z : ℤ) → x +ℤ z ≡ y +ℤ z → x ≡ y
-+ℤ-cancel x y z h = omega (ints, add_is x z, add_is y z)
-
-zero_size : (z : ℤ) → nat_abs z ≡ 0 → z ≡ pos 0
-zero_size z h = omega (ints, size z)
-
-pub size_pos : (z : ℤ) → (z ≡ pos 0 → ⊥) → 0 < nat_abs z
-size_pos (pos zero) h = absurd (h refl)
-size_pos (pos (suc n)) h = omega arith
-size_pos (negsuc n) h = omega arith
-
-factor_zero : (a b : ℕ) → a * b ≡ 0 → 0 < b → a ≡ 0
-factor_zero zero b e h = refl
-factor_zero (suc a) b e h = absurd (omega arith)
-
-pub *ℤ-cancel : (x y z : ℤ) → (z ≡ pos 0 → ⊥) → x *ℤ z ≡ y *ℤ z → x ≡ y
-*ℤ-cancel x y z nz h = sub_zero_eq x y (zero_size (x -ℤ y) (factor_zero _ _ none (size_pos z nz)))
-  where
-    none : nat_abs (x -ℤ y) * nat_abs z ≡ 0
-    none = sym (abs_mul (x -ℤ y) z) ∙ ap nat_abs (*ℤ-distr x (neg_ℤ y) z ∙ ap (λ t. x *ℤ z +ℤ t) (neg-*ℤ y z) ∙ ap (λ t. t -ℤ y *ℤ z) h ∙ +ℤ_invr (y *ℤ z))
