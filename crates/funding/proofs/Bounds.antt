@@ -13,7 +13,7 @@ use Rattle.integers.specs.declared.Tie.TheVariants.{Even}
 use Rattle.integers.proofs.Laws.{add_is, neg_up, neg_dn}
 use Rattle.integers.proofs.Order.{size, apart, abs_add, abs_mul}
 use Rattle.integers.proofs.Rounding.{rounded_le}
-use Rattle.integers.proofs.Tests.{by_test, both_true}
+use Rattle.std.proofs.lemmas.Bool.{and_parts, cond_both}
 use Rattle.prices.specs.Price.{least_price, largest_price, is_price, is_present, none_or_price}
 use Rattle.prices.proofs.Prices.{price_to, price_by, the_price}
 use Rattle.funding.specs.Minute.{futures_price, basis_of, accrued, most_basis, weighted_limit, Accrues}
@@ -30,8 +30,8 @@ basis_size F u l _ _ h =
 -- the futures price of a market of prices is a price, where the last trade is none or a price
 pub futures_is_price : (b a last : ℕ) → is_price b ≡ true → is_price a ≡ true → none_or_price last ≡ true → is_price (futures_price b a last) ≡ true
 futures_is_price b a last hb ha hl =
-    by_test (is_present last && leb b last && leb last a) (λ p. is_price p ≡ true)
-    (λ e. the_price last (both_true (is_present last) (leb b last) (both_true (is_present last && leb b last) (leb last a) e).0).0 hl)
+    cond_both (is_present last && leb b last && leb last a) _ _ (λ p. is_price p ≡ true)
+    (λ e. the_price last (and_parts (is_present last) (leb b last) (and_parts (is_present last && leb b last) (leb last a) e).0).0 hl)
     (λ e. price_by ((a + b) / 2) (omega (arith, price_to b hb, price_to a ha)) (omega (arith, price_to b hb, price_to a ha)))
 
 -- the weighted sum with one more valid minute is within its limit

@@ -9,8 +9,9 @@ use mathlib.Core.Logic.{◌⊎◌, inl, inr, ⊎_elim}
 use Prim.Native.Nat.{ℕ, zero, suc, ◌+◌, ◌*◌, ◌/◌, ◌%◌, ◌<◌, ◌≤◌}
 use native.Mathlib.Nat.{div-add-mod, mod-lt, lt_of_mul-lt-mul_right}
 use native.Mathlib.Omega.{arith}
-use lib.Dec.{T, ltb, eqb, ltb→lt, nltb→le}
+use lib.Dec.{ltb, eqb}
 use borrow.Author.Tests.{lt-ltb, le-ltb, ltb-true, ltb-false, eqb-true, eqb-false}
+use Rattle.std.proofs.lemmas.Bool.{cond_both}
 use lib.IntN.{ℤ, pos, negsuc, neg_ℤ, nat_abs, ◌+ℤ◌, ◌-ℤ◌, ◌*ℤ◌, neg_ℤ-+ℤ}
 use lib.Signed.{quot_z, rem_z, ◌<ℤ◌}
 use Rattle.integers.specs.declared.Tie.{Tie}
@@ -33,10 +34,6 @@ record Near (tie : Tie) (a d n : ℕ) : Type 0 where
   high : 2 * a ≤ 2 * (n * d) + d
   low_tie : 2 * (n * d) ≡ 2 * a + d → Picked tie a d n
   high_tie : 2 * a ≡ 2 * (n * d) + d → Picked tie a d n
-
-by_test : (b : Bool) (P : ℕ → Type 0) (x y : ℕ) → (T b → P x) → (T (not b) → P y) → P (cond b x y)
-by_test true P x y f g = f tt
-by_test false P x y f g = g tt
 
 -- what 0 and 1 both have, q % 2 has
 by_parity : (q : ℕ) (P : ℕ → Type 0) → (q % 2 ≡ 0 → P 0) → (q % 2 ≡ 1 → P 1) → P (q % 2)
@@ -62,11 +59,11 @@ nearest_near tie a d h =
     let r = a % d in
     let e : d * q + r ≡ a = div-add-mod a d in
     let l : r < d = mod-lt a h in
-    by_test (ltb (2 * r) d) (Near tie a d) q (cond (ltb d (2 * r)) (q + 1) (on_tie tie q))
-    (λ t. let k = ltb→lt (2 * r) d t in record { low = omega arith; high = omega arith; low_tie = λ z. absurd (omega arith); high_tie = λ z. absurd (omega arith) })
-    (λ t. by_test (ltb d (2 * r)) (Near tie a d) (q + 1) (on_tie tie q)
-    (λ u. let k = ltb→lt d (2 * r) u in record { low = omega arith; high = omega arith; low_tie = λ z. absurd (omega arith); high_tie = λ z. absurd (omega arith) })
-    (λ u. let k = nltb→le (2 * r) d t in let m = nltb→le d (2 * r) u in near_tie tie a d q r h e (omega arith)))
+    cond_both (ltb (2 * r) d) q (cond (ltb d (2 * r)) (q + 1) (on_tie tie q)) (Near tie a d)
+    (λ t. let k = ltb-true (2 * r) d t in record { low = omega arith; high = omega arith; low_tie = λ z. absurd (omega arith); high_tie = λ z. absurd (omega arith) })
+    (λ t. cond_both (ltb d (2 * r)) (q + 1) (on_tie tie q) (Near tie a d)
+    (λ u. let k = ltb-true d (2 * r) u in record { low = omega arith; high = omega arith; low_tie = λ z. absurd (omega arith); high_tie = λ z. absurd (omega arith) })
+    (λ u. let k = ltb-false (2 * r) d t in let m = ltb-false d (2 * r) u in near_tie tie a d q r h e (omega arith)))
 
 -- a quotient at most m is rounded to at most m, and one at least m to at least m
 pub nearest_le : (tie : Tie) (a d m : ℕ) → 0 < d → a ≤ m * d → nearest tie a d ≤ m

@@ -16,7 +16,7 @@ use Rattle.integers.specs.declared.Tie.TheVariants.{Even}
 use Rattle.integers.proofs.Laws.{neg_up, neg_dn}
 use Rattle.integers.proofs.Order.{ints, size, apart, abs_neg, abs_mul}
 use Rattle.integers.proofs.Rounding.{rounded_le, nearest_le, nearest_ge}
-use Rattle.integers.proofs.Tests.{by_test, both_true}
+use Rattle.std.proofs.lemmas.Bool.{and_parts, cond_both}
 use Rattle.prices.specs.Price.{least_price, largest_price, is_price, is_present, none_or_price}
 use Rattle.prices.proofs.Prices.{price_by, none_or_price-price}
 use Rattle.funding.specs.declared.Terms.{Terms}
@@ -28,9 +28,9 @@ use Rattle.settlement.specs.Fixing.{clamped_to, amount_of, average_price, index_
 pub clamped_size : (t : Terms) (r : ℤ) (n : ℕ) → t.below ≤ n → t.above ≤ n → nat_abs (clamped_to t r) ≤ n
 clamped_size t r n hb ha =
     let low = neg_ℤ (pos t.below) in
-    by_test (lt_z r low) (λ z. nat_abs z ≤ n)
+    cond_both (lt_z r low) _ _ (λ z. nat_abs z ≤ n)
     (λ e. omega (arith, abs_neg (pos t.below)))
-    (λ e. by_test (lt_z (pos t.above) r) (λ z. nat_abs z ≤ n)
+    (λ e. cond_both (lt_z (pos t.above) r) _ _ (λ z. nat_abs z ≤ n)
     (λ f. ha)
     (λ f. omega (ints, size r, apart r, neg_up (pos t.below), neg_dn (pos t.below))))
 
@@ -62,13 +62,13 @@ index_is_price : (index : ℕ) (previous : Previous) → none_or_price (index_pr
 index_is_price index previous =
     let p = index + previous.price - previous.index in
     let given = is_present index && is_present previous.price && is_present previous.index in
-    by_test (given && is_price p) (λ q. none_or_price q ≡ true) (λ e. none_or_price-price p (both_true given (is_price p) e).1) (λ e. refl)
+    cond_both (given && is_price p) _ _ (λ q. none_or_price q ≡ true) (λ e. none_or_price-price p (and_parts given (is_price p) e).1) (λ e. refl)
 
 -- the settlement price is none or a price, where the set price is and the final minute's contracts were traded at prices
 pub settlement_is_price : (set : ℕ) (traded : FinalMinute) (index : ℕ) (previous : Previous) → none_or_price set ≡ true → least_price * traded.contracts ≤ traded.gross → traded.gross ≤ largest_price * traded.contracts → none_or_price (settlement_price set traded index previous) ≡ true
 settlement_is_price set traded index previous hs l h =
-    by_test (is_present set) (λ p. none_or_price p ≡ true)
+    cond_both (is_present set) _ _ (λ p. none_or_price p ≡ true)
     (λ e. hs)
-    (λ e. by_test (is_present traded.contracts) (λ p. none_or_price p ≡ true)
+    (λ e. cond_both (is_present traded.contracts) _ _ (λ p. none_or_price p ≡ true)
     (λ g. none_or_price-price (average_price traded) (average_is_price traded g l h))
     (λ g. index_is_price index previous))

@@ -12,9 +12,10 @@ use mir.Syntax.{w64}
 use mir.Val.{SFits, to_z, of_z}
 use mir.Facts.{to_z-of_z}
 use borrow.Author.Tests.{ltb-true, eqb-true}
+use Rattle.std.proofs.lemmas.Int.{quot_is, rem_is, quot_fits, rem_below}
 use Rattle.integers.specs.Rounding.{with_sign_of, on_tie}
 use Rattle.integers.proofs.Order.{size, fits_abs, lt_to}
-use Rattle.integers.proofs.Machine.{bits_pos, quot_fits, rem_fits, rem_lt, quot_rem_size}
+use Rattle.integers.proofs.Machine.{bits_pos, quot_rem_size}
 use Rattle.integers.proofs.Rounding.{stays, goes_on}
 use Rattle.integers.proofs.rounded.Goals as goal
 use Rattle.integers.proofs.rounded.Goals.{After-unsigned_abs-size, After-unsigned_abs, After-tie_goes_on, Start, Then-goes_on}
@@ -27,13 +28,7 @@ module _ (s : Start) where
   d_back = to_z-of_z s.ranges.d
 
   q_fits : SFits w64 (quot_z s.args.x s.args.d)
-  q_fits = quot_fits s.args.x s.args.d s.ranges.x s.requires
-
-  q_back : to_z w64 (of_z w64 (quot_z s.args.x s.args.d)) ≡ quot_z s.args.x s.args.d
-  q_back = to_z-of_z q_fits
-
-  r_back : to_z w64 (of_z w64 (rem_z s.args.x s.args.d)) ≡ rem_z s.args.x s.args.d
-  r_back = to_z-of_z (rem_fits s.args.x s.args.d s.ranges.x)
+  q_fits = quot_fits w64 s.args.x s.args.d s.ranges.x s.requires
 
   d_size : 0 < nat_abs s.args.d
   d_size = omega (arith, lt_to s.requires, size s.args.d)
@@ -41,7 +36,7 @@ module _ (s : Start) where
   -- a divisor that a remainder is at least half of is at least 2, and the quotient at most half of the dividend
   q_half : nat_abs s.args.d ≤ 2 * nat_abs (rem_z s.args.x s.args.d) → nat_abs (quot_z s.args.x s.args.d) ≤ 4611686018427387903
   q_half h =
-      let r = rem_lt s.args.x s.args.d d_size in
+      let r = rem_below s.args.x s.args.d d_size in
       let l : 2 ≤ nat_abs s.args.d = omega arith in
       omega (arith, quot_rem_size s.args.x s.args.d, fits_abs s.ranges.x, mul-le-mul_right (nat_abs (quot_z s.args.x s.args.d)) l)
 
@@ -50,14 +45,14 @@ module _ (s : Start) where
 
   -- what the machine has of the quotient
   q_is : to_z w64 (of_z w64 (quot_z (to_z w64 (of_z w64 s.args.x)) (to_z w64 (of_z w64 s.args.d)))) ≡ quot_z s.args.x s.args.d
-  q_is = ap₂ (λ x d. to_z w64 (of_z w64 (quot_z x d))) x_back d_back ∙ q_back
+  q_is = quot_is w64 s.args.x s.args.d s.ranges.x s.ranges.d q_fits
 
 -- the remainder's size, and that it is below the divisor
 size_is : (c : After-unsigned_abs-size) → c.unsigned_abs-size.result ≡ nat_abs (rem_z c.args.x c.args.d)
-size_is c = c.unsigned_abs-size.ensures.value ∙ ap nat_abs (ap₂ (λ x d. to_z w64 (of_z w64 (rem_z x d))) (x_back c.before) (d_back c.before) ∙ r_back c.before)
+size_is c = c.unsigned_abs-size.ensures.value ∙ ap nat_abs (rem_is w64 c.args.x c.args.d c.ranges.x c.ranges.d)
 
 size_below : (c : After-unsigned_abs-size) → c.unsigned_abs-size.result < nat_abs c.args.d
-size_below c = rw (size_is c) (rem_lt c.args.x c.args.d (d_size c.before))
+size_below c = rw (size_is c) (rem_below c.args.x c.args.d (d_size c.before))
 
 -- the divisor's size
 divisor_is : (c : After-unsigned_abs) → c.unsigned_abs.result ≡ nat_abs c.args.d
