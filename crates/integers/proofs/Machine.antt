@@ -4,19 +4,20 @@
 --     quot_rem_size          and they make up the dividend's
 -- Assumes nothing.
 use mathlib.Core.Path.{◌≡◌, refl}
-use Prim.Native.Nat.{ℕ, zero, suc, ◌+◌, ◌*◌, ◌/◌, ◌%◌, ◌<◌, ◌≤◌, ◌^◌}
-use native.Mathlib.Nat.{div-le_self, mod-le, mod-lt, div-add-mod}
+use Prim.Native.Nat.{suc, ◌+◌, ◌*◌, ◌/◌, ◌%◌, ◌<◌}
+use native.Mathlib.Nat.{div-add-mod}
 use native.Mathlib.Omega.{arith}
-use lib.IntN.{ℤ, pos, negsuc, neg_ℤ, nat_abs}
+use borrow.Author.Differences.{lt_out}
+use lib.IntN.{ℤ, pos, negsuc, nat_abs}
 use lib.Signed.{◌<ℤ◌, quot_z, rem_z}
-use mir.Syntax.{Width, w64}
-use mir.Val.{SFits, of_z}
-use Rattle.integers.proofs.Order.{abs_neg, lt_to}
+use mir.Syntax.{Width}
+use mir.Val.{of_z}
+use Rattle.integers.proofs.Order.{abs_neg}
 
 -- ---- the divisor's bits are not 0
 pub bits_pos : (w : Width) {z : ℤ} → pos 0 <ℤ z → 0 < of_z w z
-bits_pos w {z = pos n} h = omega (arith, lt_to h)
-bits_pos w {z = negsuc n} h = absurd (omega (arith, lt_to h))
+bits_pos w {z = pos n} h = omega (arith, lt_out (pos 0) (pos n) h)
+bits_pos w {z = negsuc n} h = absurd h.lt
 
 -- ---- quotient and remainder
 pub abs_quot : (x d : ℤ) → nat_abs (quot_z x d) ≡ nat_abs x / nat_abs d

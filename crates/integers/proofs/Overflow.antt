@@ -18,7 +18,8 @@ use lib.IntN.{ℤ, pos, nat_abs, ◌+ℤ◌, ◌-ℤ◌, ◌*ℤ◌}
 use mir.Syntax.{w64}
 use mir.Val.{SFits, to_z, of_z}
 use mir.Facts.{to_z-of_z, to_z_pos}
-use Rattle.integers.proofs.Order.{abs_add, abs_sub, abs_mul_le, sfits_abs}
+use Rattle.std.proofs.lemmas.Int.{fits_signed_from_abs}
+use Rattle.integers.proofs.Order.{abs_add, abs_sub, abs_mul_le}
 
 pub data Slot : Type 0 where
   val : ℤ → Slot
@@ -121,7 +122,7 @@ module _ {ρ : List Slot} {β : List ℕ} (W : Within ρ β) where
   under (mul a b) h = both_l (ltb (most β a * most β b) (2 ^ 63)) (both (ok β a) (ok β b)) h
 
   pub fits : (e : Op) → T (ok β e) → SFits w64 (eval ρ e)
-  fits e h = sfits_abs (omega (arith, sized e, ltb→lt (most β e) (2 ^ 63) (under e h)))
+  fits e h = fits_signed_from_abs w64 (eval ρ e) (omega (arith, sized e, ltb→lt (most β e) (2 ^ 63) (under e h)))
 
   slot_back : (x : Slot) → SFits w64 (value_of x) → to_z w64 (bits_of x) ≡ value_of x
   slot_back (val z) f = to_z-of_z f

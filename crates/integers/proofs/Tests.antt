@@ -4,9 +4,10 @@
 --     either            what holds for either of two tests of which one holds
 --     and               two tests that hold, joined
 --     each, none        each of the tests a && b && c && … that hold, and of a || b || c || … that fail, by its place
+-- `either` and `and` are the kit's `or_cases` and `and_from`, here with the test before what follows from it, and with the tests unnamed: a citation stays one line.
 -- Assumes nothing.
-use mathlib.Core.Path.{◌≡◌, refl, sym}
-use mathlib.Core.Bool.{Bool, true, false, cond, ◌&&◌, ◌||◌, true≢false}
+use mathlib.Core.Path.{◌≡◌, refl}
+use mathlib.Core.Bool.{Bool, true, false, ◌&&◌, ◌||◌}
 use mathlib.Core.List.{List, [], ◌∷◌}
 use Prim.Native.Nat.{ℕ, zero, suc, ◌≤◌}
 use native.Mathlib.Omega.{arith}

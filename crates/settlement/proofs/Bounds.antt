@@ -10,13 +10,14 @@ use native.Mathlib.Omega.{arith}
 use lib.Dec.{eqb}
 use lib.IntN.{ℤ, pos, neg_ℤ, nat_abs, ◌*ℤ◌}
 use lib.Signed.{lt_z}
+use borrow.Author.Differences.{ints}
 use borrow.Author.Tests.{eqb-false, not-true}
 use Rattle.integers.specs.declared.Tie.{Tie}
 use Rattle.integers.specs.declared.Tie.TheVariants.{Even}
-use Rattle.integers.proofs.Laws.{neg_up, neg_dn}
-use Rattle.integers.proofs.Order.{ints, size, apart, abs_neg, abs_mul}
+use Rattle.integers.proofs.Order.{size, apart, abs_neg}
 use Rattle.integers.proofs.Rounding.{rounded_le, nearest_le, nearest_ge}
 use Rattle.std.proofs.lemmas.Bool.{and_parts, cond_both}
+use Rattle.std.proofs.lemmas.Int.{unsigned_abs-mul}
 use Rattle.prices.specs.Price.{least_price, largest_price, is_price, is_present, none_or_price}
 use Rattle.prices.proofs.Prices.{price_by, none_or_price-price}
 use Rattle.funding.specs.declared.Terms.{Terms}
@@ -32,7 +33,7 @@ clamped_size t r n hb ha =
     (λ e. omega (arith, abs_neg (pos t.below)))
     (λ e. cond_both (lt_z (pos t.above) r) _ _ (λ z. nat_abs z ≤ n)
     (λ f. ha)
-    (λ f. omega (ints, size r, apart r, neg_up (pos t.below), neg_dn (pos t.below))))
+    (λ f. omega (arith, ints, size r, apart r)))
 
 -- price × size, and the rate times it, for a rate, a price and a size within limits
 module _ (r : ℤ) (P size : ℕ) (most-rate most-price most-size : ℕ) (hr : nat_abs r ≤ most-rate) (hP : P ≤ most-price) (hs : size ≤ most-size) where
@@ -50,7 +51,7 @@ module _ (r : ℤ) (P size : ℕ) (most-rate most-price most-size : ℕ) (hr : n
   pub amount_size : (tie : Tie) (most : ℕ) → most-rate * (most-price * most-size) ≤ most * 100000000000 → nat_abs (amount_of tie r P size) ≤ most
   amount_size tie most h =
       rounded_le tie (neg_ℤ r *ℤ pos (P * size)) 100000000000 most (omega arith)
-      (omega (arith, abs_mul (neg_ℤ r) (pos (P * size)), ap (λ n. n * (P * size)) (abs_neg r), product_size))
+      (omega (arith, unsigned_abs-mul (neg_ℤ r) (pos (P * size)), ap (λ n. n * (P * size)) (abs_neg r), product_size))
 
 average_is_price : (traded : FinalMinute) → is_present traded.contracts ≡ true → least_price * traded.contracts ≤ traded.gross → traded.gross ≤ largest_price * traded.contracts → is_price (average_price traded) ≡ true
 average_is_price traded g l h =

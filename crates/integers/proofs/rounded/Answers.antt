@@ -11,10 +11,11 @@ use lib.Signed.{rem_z, quot_z}
 use mir.Syntax.{w64}
 use mir.Val.{SFits, to_z, of_z}
 use mir.Facts.{to_z-of_z}
+use borrow.Author.Differences.{fits_out, lt_out}
 use borrow.Author.Tests.{ltb-true, eqb-true}
 use Rattle.std.proofs.lemmas.Int.{quot_is, rem_is, quot_fits, rem_below}
 use Rattle.integers.specs.Rounding.{with_sign_of, on_tie}
-use Rattle.integers.proofs.Order.{size, fits_abs, lt_to}
+use Rattle.integers.proofs.Order.{size, apart}
 use Rattle.integers.proofs.Machine.{bits_pos, quot_rem_size}
 use Rattle.integers.proofs.Rounding.{stays, goes_on}
 use Rattle.integers.proofs.rounded.Goals as goal
@@ -31,14 +32,14 @@ module _ (s : Start) where
   q_fits = quot_fits w64 s.args.x s.args.d s.ranges.x s.requires
 
   d_size : 0 < nat_abs s.args.d
-  d_size = omega (arith, lt_to s.requires, size s.args.d)
+  d_size = omega (arith, lt_out _ _ s.requires, size s.args.d)
 
   -- a divisor that a remainder is at least half of is at least 2, and the quotient at most half of the dividend
   q_half : nat_abs s.args.d ≤ 2 * nat_abs (rem_z s.args.x s.args.d) → nat_abs (quot_z s.args.x s.args.d) ≤ 4611686018427387903
   q_half h =
       let r = rem_below s.args.x s.args.d d_size in
       let l : 2 ≤ nat_abs s.args.d = omega arith in
-      omega (arith, quot_rem_size s.args.x s.args.d, fits_abs s.ranges.x, mul-le-mul_right (nat_abs (quot_z s.args.x s.args.d)) l)
+      omega (arith, quot_rem_size s.args.x s.args.d, size s.args.x, apart s.args.x, fits_out w64 _ s.ranges.x, mul-le-mul_right (nat_abs (quot_z s.args.x s.args.d)) l)
 
   q_small : nat_abs s.args.d ≤ 2 * nat_abs (rem_z s.args.x s.args.d) → nat_abs (quot_z s.args.x s.args.d) + 1 < 2 ^ 63
   q_small h = omega (arith, q_half h)
