@@ -1,6 +1,6 @@
--- What the needs and the tests of signed arithmetic at 64 bits come down to.
+-- The machine's division of signed numbers, in sizes; what else it needs is the kit's (`quot_is`, `rem_is`, `quot_fits`, `rem_below`).
 --     bits_pos               a divisor's bits are not 0
---     abs_quot, abs_rem      the sizes of the machine's quotient and remainder
+--     abs_quot, abs_rem      the sizes of the quotient and the remainder
 --     quot_rem_size          and they make up the dividend's
 -- Assumes nothing.
 use mathlib.Core.Path.{◌≡◌, refl}
@@ -14,12 +14,10 @@ use mir.Syntax.{Width}
 use mir.Val.{of_z}
 use Rattle.integers.proofs.Order.{abs_neg}
 
--- ---- the divisor's bits are not 0
 pub bits_pos : (w : Width) {z : ℤ} → pos 0 <ℤ z → 0 < of_z w z
 bits_pos w {z = pos n} h = omega (arith, lt_out (pos 0) (pos n) h)
 bits_pos w {z = negsuc n} h = absurd h.lt
 
--- ---- quotient and remainder
 pub abs_quot : (x d : ℤ) → nat_abs (quot_z x d) ≡ nat_abs x / nat_abs d
 abs_quot (pos a) (pos b) = refl
 abs_quot (pos a) (negsuc b) = abs_neg (pos (a / suc b))
