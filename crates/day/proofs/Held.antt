@@ -12,7 +12,8 @@ use lib.Dec.{leb, eqb}
 use lib.IntN.{nat_abs}
 use borrow.Author.Tests.{le-leb}
 use Rattle.integers.specs.Size.{within}
-use Rattle.integers.proofs.Tests.{tests, ◌and◌, each, both_true}
+use Rattle.std.proofs.lemmas.Bool.{and_parts}
+use Rattle.integers.proofs.Tests.{tests, ◌and◌, each}
 use Rattle.settlement.specs.declared.FinalMinute.{FinalMinute}
 use Rattle.prices.specs.Price.{least_price, largest_price, none_or_price, none_or_ticked}
 use Rattle.funding.specs.Minute.{weighted_limit, most_minutes}
@@ -111,4 +112,4 @@ held_market m h =
     record { bid = ticked_price m.bid (t 0); offer = ticked_price m.offer (t 1) }
 
 pub held_minute : (m : Market) → minute_market_holds m ≡ true → HeldMarket m
-held_minute m h = held_market m (both_true (market_holds m) (two_sided m || (eqb m.bid 0 && eqb m.offer 0)) h).0
+held_minute m h = held_market m (and_parts (market_holds m) (two_sided m || (eqb m.bid 0 && eqb m.offer 0)) h).0

@@ -14,7 +14,8 @@ use native.Mathlib.Omega.{arith}
 use lib.Dec.{ltb, eqb}
 use lib.IntN.{nat_abs}
 use borrow.Author.Tests.{eqb-true, not-false}
-use Rattle.integers.proofs.Tests.{tests, by_test, both_true, either, ◌and◌, each, none}
+use Rattle.std.proofs.lemmas.Bool.{and_parts, cond_both}
+use Rattle.integers.proofs.Tests.{tests, either, ◌and◌, each, none}
 use Rattle.prices.specs.Price.{least_price, largest_price, is_price, is_present, none_or_price}
 use Rattle.funding.specs.Minute.{within_spread, futures_price, basis_of, accrued, weighted_limit, Accrues}
 use Rattle.funding.specs.declared.Terms.{Terms}
@@ -38,12 +39,12 @@ markets_hold-each standing minute s m = s and m
 
 pub minute_market_holds-as_minute : (m other : Market) → market_holds m ≡ true → minute_market_holds other ≡ true → minute_market_holds (as_minute m other) ≡ true
 minute_market_holds-as_minute m other hm ho =
-    by_test (two_sided m) (λ x. minute_market_holds x ≡ true) (λ e. hm and ap (λ t. t || (eqb m.bid 0 && eqb m.offer 0)) e) (λ e. ho)
+    cond_both (two_sided m) _ _ (λ x. minute_market_holds x ≡ true) (λ e. hm and ap (λ t. t || (eqb m.bid 0 && eqb m.offer 0)) e) (λ e. ho)
 
 -- no minute has ended, so that any length will do, and the day is not fixed
 pub held-with_length : (d : Day) → HeldDay d → (l : ℕ) → forbids_length d ≡ false → is_length l ≡ true → HeldDay (begun (with_length d l))
 held-with_length d h l late hl =
-    let first = both_true (eqb (day_length d) full_day) (eqb d.minutes.ended 0) (rw late at h.start) in
+    let first = and_parts (eqb (day_length d) full_day) (eqb d.minutes.ended 0) (rw late at h.start) in
     let full : day_length d ≡ full_day = eqb-true (day_length d) full_day first.0 in
     let none-ended : d.minutes.ended ≡ 0 = eqb-true d.minutes.ended 0 first.1 in
     let unfixed : not (is_fixed d) ≡ true = either (not (is_fixed d)) (eqb d.minutes.ended (day_length d)) h.fix (λ e. e) (λ e. absurd (omega tests)) in
@@ -106,7 +107,7 @@ module _ (d : Day) (h : HeldDay d) (t : Terms) (halted : Bool) (u : ℕ) (before
         weighted = (sums valid refl).1;
         markets = markets_hold-each d.markets.standing (as_minute d.markets.standing no_market) standing (minute_market_holds-as_minute d.markets.standing no_market standing refl);
         last = h.last;
-        index = by_test (in_last_minute (day_length d) d.minutes.ended) (λ p. none_or_price p ≡ true) (λ e. hu) (λ e. h.index);
+        index = cond_both (in_last_minute (day_length d) d.minutes.ended) _ _ (λ p. none_or_price p ≡ true) (λ e. hu) (λ e. h.index);
         price = h.price;
         amount = h.amount;
         fix = ap (λ x. not x || eqb (d.minutes.ended + 1) (day_length d)) unfixed;

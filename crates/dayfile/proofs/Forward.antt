@@ -9,7 +9,7 @@ use native.Mathlib.Omega.{arith}
 use borrow.Author.Tests.{leb-false, ltb-false}
 use lib.ListN.{length}
 use lib.Dec.{ltb, leb, eqb}
-use Rattle.integers.proofs.Tests.{by_test}
+use Rattle.std.proofs.lemmas.Bool.{cond_both}
 use Rattle.std.specs.Prelude.{Option, Some, None, Result, Ok, Err}
 use Rattle.tags.specs.declared.Tag.{Tag}
 use Rattle.tags.specs.Tags.{tag_of, body_length}
@@ -23,13 +23,13 @@ use Rattle.dayfile.specs.Record.{stated_length, next_at, complete, read_at, Lead
 complete_leads : (file : List ℕ) (at : ℕ) (t : Option Tag) → next_at file at ≤ length file → Leads file at (next_at file at) (complete file at t)
 complete_leads file at None h = (omega arith, h)
 complete_leads file at (Some t) h =
-    by_test (eqb (stated_length file at) (body_length t)) (Leads file at (next_at file at)) (λ _. (omega arith, h)) (λ _. (omega arith, h))
+    cond_both (eqb (stated_length file at) (body_length t)) _ _ (Leads file at (next_at file at)) (λ _. (omega arith, h)) (λ _. (omega arith, h))
 
 pub forward : Forward
 unfolding read_at
 forward file at =
-    by_test (leb (length file) at) (Onward file at) (λ _. tt) (λ before.
-    by_test (ltb (length file) (next_at file at)) (λ r. Onward file at (Some r)) (λ _. (leb-false (length file) at before, refl)) (λ e.
+    cond_both (leb (length file) at) _ _ (Onward file at) (λ _. tt) (λ before.
+    cond_both (ltb (length file) (next_at file at)) _ _ (λ r. Onward file at (Some r)) (λ _. (leb-false (length file) at before, refl)) (λ e.
     complete_leads file at (tag_of (byte_at file at)) (ltb-false (length file) (next_at file at) e)))
 
 further : (file : List ℕ) (at next : ℕ) (call : Result (Option Call) RecordError) → Leads file at next call → (at < next) × (next ≤ length file)

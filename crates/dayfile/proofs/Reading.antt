@@ -15,7 +15,8 @@ use native.Mathlib.Omega.{arith}
 use borrow.Author.Tests.{leb-true, eqb-true, le-leb, lt-leb, lt-ltb, le-ltb, eq-eqb, ne_eqb}
 use lib.Dec.{leb, ltb, eqb}
 use lib.ListN.{length}
-use Rattle.integers.proofs.Tests.{tests, both_true}
+use Rattle.std.proofs.lemmas.Bool.{and_parts}
+use Rattle.integers.proofs.Tests.{tests}
 use Rattle.tags.specs.declared.Tag.{Tag}
 use Rattle.tags.specs.declared.Tag.TheVariants as tag
 use Rattle.std.specs.Prelude.{Option, Some, None, Ok, Err}
@@ -63,8 +64,8 @@ module _ (file : List ℕ) (at : ℕ) where
       let fits = leb (body_at at + body_length t) (length file) in
       let byte = eqb (byte_at file at) (byte_of t) in
       let stated = eqb (stated_length file at) (body_length t) in
-      let k = both_true (fits && byte) stated h in
-      let j = both_true fits byte k.0 in
+      let k = and_parts (fits && byte) stated h in
+      let j = and_parts fits byte k.0 in
       (leb-true (body_at at + body_length t) (length file) j.0, eqb-true (byte_at file at) (byte_of t) j.1, eqb-true (stated_length file at) (body_length t) k.1)
 
   pub record_at : (t : Tag) → is_record_at file at t ≡ true → body_at at + body_length t ≤ length file

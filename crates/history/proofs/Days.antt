@@ -7,7 +7,7 @@ use lib.Dec.{ltb, eqb}
 use lib.ListN.{length}
 use borrow.Author.Tests.{eqb-true, not-false}
 use Rattle.integers.specs.Lists.{Every}
-use Rattle.integers.proofs.Tests.{both_false}
+use Rattle.std.proofs.lemmas.Bool.{or_parts}
 use Rattle.prices.specs.Price.{is_present}
 use Rattle.calls.specs.declared.Call.TheVariants as call
 use Rattle.calls.specs.Calls.{on_close}
@@ -52,7 +52,7 @@ one_fix n s (c ∷ h) a = by (one_fix n s h a.1) (fix_or c) (close_or c)
   where
     fixes-fix : (set : ℕ) → length (fixes h) ≡ cond (is_present (price_on h)) 1 0 → Passed n (book_from n s h) (call.Fix set) → suc (length (fixes h)) ≡ cond (is_present (fix_price (figures_from s h) set)) 1 0
     fixes-fix set rest p =
-        let unfixed = (both_false (ltb (minutes h) (length_of h)) (is_present (price_on h)) p.sentences.day).1 in
+        let unfixed = (or_parts (ltb (minutes h) (length_of h)) (is_present (price_on h)) p.sentences.day).1 in
         ap suc (rest ∙ ap (λ (x : Bool). cond x 1 0) unfixed)
         ∙ sym (ap (λ (x : Bool). cond x 1 0) (not-false (is_present (fix_price (figures_from s h) set)) p.sentences.price))
 

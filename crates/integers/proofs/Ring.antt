@@ -6,7 +6,7 @@ use mathlib.Core.Path.{◌≡◌, refl, sym, ◌∙◌, ap, ap₂}
 use mathlib.Core.List.{List, [], ◌∷◌, ◌++◌}
 use Prim.Native.Nat.{ℕ, zero, suc, compare, Ordering}
 use lib.Dec.{T, compare_is_eq, eqb→eq}
-use lib.IntN.{ℤ, pos, negsuc, neg_ℤ, ◌+ℤ◌, ◌-ℤ◌, ◌*ℤ◌, +ℤ_assoc, +ℤ_idl, +ℤ_idr, +ℤ_invr, zero-*ℤ, *ℤ-zero, neg_ℤ-+ℤ, *ℤ_comm}
+use lib.IntN.{ℤ, pos, negsuc, neg_ℤ, ◌+ℤ◌, ◌*ℤ◌, +ℤ_assoc, +ℤ_idl, +ℤ_idr, zero-*ℤ, *ℤ-zero, neg_ℤ-+ℤ, *ℤ_comm}
 use Rattle.integers.proofs.Laws.{*ℤ-assoc, *ℤ-distl, *ℤ-distr, *ℤ-left-comm, +ℤ-left-comm, neg-*ℤ, one-*ℤ, sub_zero_eq}
 
 pub data Expr : Type 0 where
@@ -182,10 +182,6 @@ module _ (ρ : List ℤ) where
   -- THE THEOREM
   pub ring_at : (a b : Expr) → norm (a ⊖ b) ≡ nil → eval ρ a ≡ eval ρ b
   ring_at a b e = sub_zero_eq (eval ρ a) (eval ρ b) (sound (a ⊖ b) ∙ ap (val ρ) e)
-
-  -- the same from a fact l ≡ r, taken k times
-  pub ring_from : (l r k a b : Expr) → norm (a ⊖ b ⊖ k ⊗ (l ⊖ r)) ≡ nil → eval ρ l ≡ eval ρ r → eval ρ a ≡ eval ρ b
-  ring_from l r k a b e h = sub_zero_eq (eval ρ a) (eval ρ b) (ring_at (a ⊖ b) (k ⊗ (l ⊖ r)) e ∙ ap (λ t. eval ρ k *ℤ (t -ℤ eval ρ r)) h ∙ ap (λ t. eval ρ k *ℤ t) (+ℤ_invr (eval ρ r)) ∙ *ℤ-zero (eval ρ k))
 
 -- ---- with named variables: `ring 2 (λ x y. ..) (λ x y. ..) refl` is the law for every x and y
 

@@ -4,20 +4,22 @@
 --     stays, goes_on     the quotient, or its neighbour, is `rounded` by how the remainder stands to what it leaves of the divisor
 -- Assumes nothing.
 use mathlib.Core.Path.{◌≡◌, refl, sym, ◌∙◌, ap}
-use mathlib.Core.Bool.{Bool, true, false, not, cond, ◌&&◌, ◌||◌}
+use mathlib.Core.Bool.{Bool, true, false, cond, ◌&&◌, ◌||◌}
 use mathlib.Core.Logic.{◌⊎◌, inl, inr, ⊎_elim}
 use Prim.Native.Nat.{ℕ, zero, suc, ◌+◌, ◌*◌, ◌/◌, ◌%◌, ◌<◌, ◌≤◌}
 use native.Mathlib.Nat.{div-add-mod, mod-lt, lt_of_mul-lt-mul_right}
 use native.Mathlib.Omega.{arith}
-use lib.Dec.{T, ltb, eqb, ltb→lt, nltb→le}
+use lib.Dec.{ltb, eqb}
+use borrow.Author.Differences.{up, down, sum_is_lem, product_is, neg_is, ints}
 use borrow.Author.Tests.{lt-ltb, le-ltb, ltb-true, ltb-false, eqb-true, eqb-false}
+use Rattle.std.proofs.lemmas.Bool.{cond_both}
+use Rattle.std.proofs.lemmas.Int.{unsigned_abs-mul}
 use lib.IntN.{ℤ, pos, negsuc, neg_ℤ, nat_abs, ◌+ℤ◌, ◌-ℤ◌, ◌*ℤ◌, neg_ℤ-+ℤ}
 use lib.Signed.{quot_z, rem_z, ◌<ℤ◌}
 use Rattle.integers.specs.declared.Tie.{Tie}
 use Rattle.integers.specs.declared.Tie.TheVariants.{Even, Away}
 use Rattle.integers.specs.Rounding.{with_sign_of, on_tie, nearest, rounded, distance, Chosen, Nearest, Characterised}
-use Rattle.integers.proofs.Laws.{up, dn, add_is, mul_is, neg_up, neg_dn}
-use Rattle.integers.proofs.Order.{size, apart, ints, abs_mul, abs_sub, lt_to}
+use Rattle.integers.proofs.Order.{size, apart, abs_sub}
 use Rattle.integers.proofs.Machine.{abs_quot, abs_rem}
 use Rattle.integers.proofs.Ring.{ring, ◌⊖◌, ◌⊗◌}
 
@@ -33,10 +35,6 @@ record Near (tie : Tie) (a d n : ℕ) : Type 0 where
   high : 2 * a ≤ 2 * (n * d) + d
   low_tie : 2 * (n * d) ≡ 2 * a + d → Picked tie a d n
   high_tie : 2 * a ≡ 2 * (n * d) + d → Picked tie a d n
-
-by_test : (b : Bool) (P : ℕ → Type 0) (x y : ℕ) → (T b → P x) → (T (not b) → P y) → P (cond b x y)
-by_test true P x y f g = f tt
-by_test false P x y f g = g tt
 
 -- what 0 and 1 both have, q % 2 has
 by_parity : (q : ℕ) (P : ℕ → Type 0) → (q % 2 ≡ 0 → P 0) → (q % 2 ≡ 1 → P 1) → P (q % 2)
@@ -62,11 +60,11 @@ nearest_near tie a d h =
     let r = a % d in
     let e : d * q + r ≡ a = div-add-mod a d in
     let l : r < d = mod-lt a h in
-    by_test (ltb (2 * r) d) (Near tie a d) q (cond (ltb d (2 * r)) (q + 1) (on_tie tie q))
-    (λ t. let k = ltb→lt (2 * r) d t in record { low = omega arith; high = omega arith; low_tie = λ z. absurd (omega arith); high_tie = λ z. absurd (omega arith) })
-    (λ t. by_test (ltb d (2 * r)) (Near tie a d) (q + 1) (on_tie tie q)
-    (λ u. let k = ltb→lt d (2 * r) u in record { low = omega arith; high = omega arith; low_tie = λ z. absurd (omega arith); high_tie = λ z. absurd (omega arith) })
-    (λ u. let k = nltb→le (2 * r) d t in let m = nltb→le d (2 * r) u in near_tie tie a d q r h e (omega arith)))
+    cond_both (ltb (2 * r) d) q (cond (ltb d (2 * r)) (q + 1) (on_tie tie q)) (Near tie a d)
+    (λ t. let k = ltb-true (2 * r) d t in record { low = omega arith; high = omega arith; low_tie = λ z. absurd (omega arith); high_tie = λ z. absurd (omega arith) })
+    (λ t. cond_both (ltb d (2 * r)) (q + 1) (on_tie tie q) (Near tie a d)
+    (λ u. let k = ltb-true d (2 * r) u in record { low = omega arith; high = omega arith; low_tie = λ z. absurd (omega arith); high_tie = λ z. absurd (omega arith) })
+    (λ u. let k = ltb-false (2 * r) d t in let m = ltb-false d (2 * r) u in near_tie tie a d q r h e (omega arith)))
 
 -- a quotient at most m is rounded to at most m, and one at least m to at least m
 pub nearest_le : (tie : Tie) (a d m : ℕ) → 0 < d → a ≤ m * d → nearest tie a d ≤ m
@@ -83,27 +81,27 @@ nearest_ge tie a d m h b =
 
 -- ---- over ℤ
 
-sides : (z : ℤ) → (dn z ≡ 0) ⊎ (up z ≡ 0)
+sides : (z : ℤ) → (down z ≡ 0) ⊎ (up z ≡ 0)
 sides (pos n) = inl refl
 sides (negsuc n) = inr refl
 
 signed_size : (x : ℤ) (n : ℕ) → nat_abs (with_sign_of x n) ≡ n
 signed_size (pos a) n = refl
-signed_size (negsuc a) n = omega (arith, size (neg_ℤ (pos n)), neg_up (pos n), neg_dn (pos n))
+signed_size (negsuc a) n = omega (arith, size (neg_ℤ (pos n)), neg_is (pos n))
 
 pub rounded_le : (tie : Tie) (x : ℤ) (d m : ℕ) → 0 < d → nat_abs x ≤ m * d → nat_abs (rounded tie x d) ≤ m
 rounded_le tie x d m h b = omega (arith, signed_size x (nearest tie (nat_abs x) d), nearest_le tie (nat_abs x) d m h b)
 
 -- what is left, x − q·d, is the difference of the two sizes, with the sign of x
-rest_is : (x : ℤ) (d n : ℕ) → let z = x -ℤ with_sign_of x n *ℤ pos d in (nat_abs x + dn z ≡ n * d + up z) ⊎ (nat_abs x + up z ≡ n * d + dn z)
-rest_is (pos a) d n = inl (omega (arith, add_is (pos a) (neg_ℤ (pos (n * d))), neg_up (pos (n * d)), neg_dn (pos (n * d))))
+rest_is : (x : ℤ) (d n : ℕ) → let z = x -ℤ with_sign_of x n *ℤ pos d in (nat_abs x + down z ≡ n * d + up z) ⊎ (nat_abs x + up z ≡ n * d + down z)
+rest_is (pos a) d n = inl (omega (arith, sum_is_lem (pos a) (neg_ℤ (pos (n * d))), neg_is (pos (n * d))))
 rest_is (negsuc a) d n =
     let q = neg_ℤ (pos n) in
-    inr (omega (arith, add_is (negsuc a) (neg_ℤ (q *ℤ pos d)), neg_up (q *ℤ pos d), neg_dn (q *ℤ pos d), mul_is q (pos d), ap (λ t. t * d) (neg_up (pos n)), ap (λ t. t * d) (neg_dn (pos n))))
+    inr (omega (arith, sum_is_lem (negsuc a) (neg_ℤ (q *ℤ pos d)), neg_is (q *ℤ pos d), product_is q (pos d), ap (λ t. t * d) (neg_is (pos n)).0, ap (λ t. t * d) (neg_is (pos n)).1))
 
 picked_chosen : (tie : Tie) (x : ℤ) (d n : ℕ) → Picked tie (nat_abs x) d n → Chosen tie x d (with_sign_of x n)
 picked_chosen Even x d n p = ap (λ k. k % 2) (signed_size x n) ∙ p
-picked_chosen Away x d n p = omega (arith, abs_mul (with_sign_of x n) (pos d), ap (λ t. t * d) (signed_size x n))
+picked_chosen Away x d n p = omega (arith, unsigned_abs-mul (with_sign_of x n) (pos d), ap (λ t. t * d) (signed_size x n))
 
 near_is_nearest : (tie : Tie) (x : ℤ) (d n : ℕ) → Near tie (nat_abs x) d n → Nearest tie x d (with_sign_of x n)
 near_is_nearest tie x d n N =
@@ -131,20 +129,20 @@ gap_is : (x p q d : ℤ) → (q -ℤ p) *ℤ d ≡ (x -ℤ p *ℤ d) -ℤ (x -�
 gap_is = ring 4 (λ x p q d. (q ⊖ p) ⊗ d) (λ x p q d. (x ⊖ p ⊗ d) ⊖ (x ⊖ q ⊗ d)) refl
 
 -- how far x lies from what is larger in size, on either side of zero
-far⁺ : (x : ℤ) (n : ℕ) → nat_abs x < n → nat_abs (x -ℤ pos n) + up x ≡ n + dn x
-far⁺ x n h = omega (arith, size x, size (x -ℤ pos n), apart (x -ℤ pos n), add_is x (neg_ℤ (pos n)), neg_up (pos n), neg_dn (pos n))
+far⁺ : (x : ℤ) (n : ℕ) → nat_abs x < n → nat_abs (x -ℤ pos n) + up x ≡ n + down x
+far⁺ x n h = omega (arith, size x, size (x -ℤ pos n), apart (x -ℤ pos n), sum_is_lem x (neg_ℤ (pos n)), neg_is (pos n))
 
-far⁻ : (x : ℤ) (n : ℕ) → nat_abs x < n → nat_abs (x -ℤ neg_ℤ (pos n)) + dn x ≡ n + up x
+far⁻ : (x : ℤ) (n : ℕ) → nat_abs x < n → nat_abs (x -ℤ neg_ℤ (pos n)) + down x ≡ n + up x
 far⁻ x n h =
     let m = neg_ℤ (pos n) in
-    omega (arith, size x, size (x -ℤ m), apart (x -ℤ m), add_is x (neg_ℤ m), neg_up m, neg_dn m, neg_up (pos n), neg_dn (pos n))
+    omega (arith, size x, size (x -ℤ m), apart (x -ℤ m), sum_is_lem x (neg_ℤ m), neg_is m, neg_is (pos n))
 
 -- neighbours differ by one in size where they have one sign, and one of them is 0 where they don't
 module _ (a b : ℕ) where
   gap⁺ : nat_abs (pos b -ℤ pos a) ≡ 1 → (b ≡ a + 1) ⊎ (a ≡ b + 1)
-  gap⁺ g = by_side (pos b -ℤ pos a) g (omega (arith, add_is (pos b) (neg_ℤ (pos a)), neg_up (pos a), neg_dn (pos a)))
+  gap⁺ g = by_side (pos b -ℤ pos a) g (omega (arith, sum_is_lem (pos b) (neg_ℤ (pos a)), neg_is (pos a)))
     where
-      by_side : (z : ℤ) → nat_abs z ≡ 1 → up z + a ≡ b + dn z → (b ≡ a + 1) ⊎ (a ≡ b + 1)
+      by_side : (z : ℤ) → nat_abs z ≡ 1 → up z + a ≡ b + down z → (b ≡ a + 1) ⊎ (a ≡ b + 1)
       by_side (pos n) g e = inl (omega arith)
       by_side (negsuc n) g e = inr (omega arith)
 
@@ -157,26 +155,26 @@ module _ (a b : ℕ) where
 not_both_even : (p q : ℤ) → nat_abs (q -ℤ p) ≡ 1 → nat_abs p % 2 ≡ 0 → nat_abs q % 2 ≡ 0 → ⊥
 not_both_even p q g e f =
     let k = q -ℤ p in
-    ⊎_elim (λ s. omega (arith, size k, size p, size q, add_is q (neg_ℤ p), neg_up p, neg_dn p)) (λ s. omega (arith, size k, size p, size q, add_is q (neg_ℤ p), neg_up p, neg_dn p)) (sides k)
+    ⊎_elim (λ s. omega (arith, size k, size p, size q, sum_is_lem q (neg_ℤ p), neg_is p)) (λ s. omega (arith, size k, size p, size q, sum_is_lem q (neg_ℤ p), neg_is p)) (sides k)
 
 not_both_away : (x : ℤ) (d : ℕ) (p q : ℤ) → nat_abs (q -ℤ p) ≡ 1 → 2 * distance x d p ≡ d → 2 * distance x d q ≡ d → nat_abs x < nat_abs (p *ℤ pos d) → nat_abs x < nat_abs (q *ℤ pos d) → ⊥
 not_both_away x d (pos a) (pos b) g h k e f =
     let z = same_side a b d _ _ (gap⁺ a b g) h k (omega (arith, far⁺ x (a * d) e, far⁺ x (b * d) f)) in
     omega (arith, far⁺ x (a * d) e, size x)
 not_both_away x d (pos a) (negsuc b) g h k e f =
-    let z : a ≡ 0 = omega (arith, size (negsuc b -ℤ pos a), add_is (negsuc b) (neg_ℤ (pos a)), neg_up (pos a), neg_dn (pos a)) in
+    let z : a ≡ 0 = omega (arith, size (negsuc b -ℤ pos a), sum_is_lem (negsuc b) (neg_ℤ (pos a)), neg_is (pos a)) in
     omega (arith, ap (λ t. t * d) z)
 not_both_away x d (negsuc a) (pos b) g h k e f =
-    let z : b ≡ 0 = omega (arith, size (pos b -ℤ negsuc a), add_is (pos b) (neg_ℤ (negsuc a)), neg_up (negsuc a), neg_dn (negsuc a)) in
+    let z : b ≡ 0 = omega (arith, size (pos b -ℤ negsuc a), sum_is_lem (pos b) (neg_ℤ (negsuc a)), neg_is (negsuc a)) in
     omega (arith, ap (λ t. t * d) z)
 not_both_away x d (negsuc a) (negsuc b) g h k e f =
-    let u : nat_abs x < suc a * d = omega (arith, abs_mul (negsuc a) (pos d)) in
-    let v : nat_abs x < suc b * d = omega (arith, abs_mul (negsuc b) (pos d)) in
+    let u : nat_abs x < suc a * d = omega (arith, unsigned_abs-mul (negsuc a) (pos d)) in
+    let v : nat_abs x < suc b * d = omega (arith, unsigned_abs-mul (negsuc b) (pos d)) in
     let z = same_side b a d _ _ (gap⁺ b a (ap nat_abs (swap a b) ∙ g)) k h (omega (arith, far⁻ x (suc a * d) u, far⁻ x (suc b * d) v)) in
     omega (arith, far⁻ x (suc a * d) u, size x)
   where
     swap : (a b : ℕ) → pos a -ℤ pos b ≡ negsuc b -ℤ negsuc a
-    swap a b = omega (ints, add_is (pos a) (neg_ℤ (pos b)), neg_up (pos b), neg_dn (pos b), add_is (negsuc b) (neg_ℤ (negsuc a)), neg_up (negsuc a), neg_dn (negsuc a))
+    swap a b = omega (arith, ints)
 
 not_both : (tie : Tie) (x : ℤ) (d : ℕ) (p q : ℤ) → nat_abs (q -ℤ p) ≡ 1 → 2 * distance x d p ≡ d → 2 * distance x d q ≡ d → Chosen tie x d p → Chosen tie x d q → ⊥
 not_both Even x d p q g a b e f = not_both_even p q g e f
@@ -187,10 +185,10 @@ nearest_is_unique tie x d p q h P Q = go (nat_abs (q -ℤ p)) refl
   where
     -- |q − p|·d is at most the two distances
     gap : nat_abs (q -ℤ p) * d ≤ distance x d p + distance x d q
-    gap = omega (arith, abs_mul (q -ℤ p) (pos d), ap nat_abs (gap_is x p q (pos d)), abs_sub (x -ℤ p *ℤ pos d) (x -ℤ q *ℤ pos d))
+    gap = omega (arith, unsigned_abs-mul (q -ℤ p) (pos d), ap nat_abs (gap_is x p q (pos d)), abs_sub (x -ℤ p *ℤ pos d) (x -ℤ q *ℤ pos d))
 
     go : (k : ℕ) → nat_abs (q -ℤ p) ≡ k → p ≡ q
-    go zero e = omega (ints, size (q -ℤ p), add_is q (neg_ℤ p), neg_up p, neg_dn p)
+    go zero e = omega (arith, ints, size (q -ℤ p))
     go (suc zero) e =
         let a : 2 * distance x d p ≡ d = omega (arith, P.near, Q.near, gap, ap (λ t. t * d) e) in
         let b : 2 * distance x d q ≡ d = omega (arith, P.near, Q.near, gap, ap (λ t. t * d) e) in
@@ -217,7 +215,7 @@ nearest_tied tie a d h = rw (le-ltb (2 * (a % d)) d (omega arith), le-ltb d (2 *
 quot_signed : (x d : ℤ) → pos 0 <ℤ d → quot_z x d ≡ with_sign_of x (nat_abs x / nat_abs d)
 quot_signed (pos a) (pos n) h = refl
 quot_signed (negsuc a) (pos n) h = refl
-quot_signed x (negsuc n) h = absurd (omega (arith, lt_to h))
+quot_signed x (negsuc n) h = absurd h.lt
 
 one_more : (x : ℤ) (k : ℕ) → with_sign_of x k +ℤ with_sign_of x 1 ≡ with_sign_of x (k + 1)
 one_more (pos a) k = refl

@@ -1,20 +1,20 @@
 -- What tests say, alone and joined by `&&` and `||`.
 --     tests             `omega tests` reads and proves tests of numbers
 --     leb_same          two tests that hold together
---     by_test           what holds of both results of a test holds of its result
---     both_true, both_false     each half of a test that holds, or that fails
 --     either            what holds for either of two tests of which one holds
 --     and               two tests that hold, joined
 --     each, none        each of the tests a && b && c && … that hold, and of a || b || c || … that fail, by its place
+-- `either` and `and` are the kit's `or_cases` and `and_from`, here with the test before what follows from it, and with the tests unnamed: a citation stays one line.
 -- Assumes nothing.
-use mathlib.Core.Path.{◌≡◌, refl, sym}
-use mathlib.Core.Bool.{Bool, true, false, cond, ◌&&◌, ◌||◌, true≢false}
+use mathlib.Core.Path.{◌≡◌, refl}
+use mathlib.Core.Bool.{Bool, true, false, ◌&&◌, ◌||◌}
 use mathlib.Core.List.{List, [], ◌∷◌}
 use Prim.Native.Nat.{ℕ, zero, suc, ◌≤◌}
 use native.Mathlib.Omega.{arith}
 use lib.Dec.{leb}
 use lib.ListN.{get_or}
 use borrow.Author.Tests.{leb-true, leb-false, ltb-true, ltb-false, eqb-true, le-leb, lt-leb, lt-ltb, le-ltb, eq-eqb}
+use Rattle.std.proofs.lemmas.Bool.{and_parts, or_parts}
 
 pub ruleset tests = (arith, leb-true, leb-false, ltb-true, ltb-false, eqb-true, le-leb, lt-leb, lt-ltb, le-ltb, eq-eqb)
 
@@ -26,18 +26,6 @@ leb_same a b c d f g = go (leb a b) (leb c d) refl refl
     go true false p q = absurd (omega (arith, f (leb-true a b p), leb-false c d q))
     go false true p q = absurd (omega (arith, leb-false a b p, g (leb-true c d q)))
     go false false p q = refl
-
-pub by_test : (t : Bool) {A : Type 0} (P : A → Type 0) {x y : A} → (t ≡ true → P x) → (t ≡ false → P y) → P (cond t x y)
-by_test true P f g = f refl
-by_test false P f g = g refl
-
-pub both_true : (s t : Bool) → s && t ≡ true → (s ≡ true) × (t ≡ true)
-both_true true t h = (refl, h)
-both_true false t h = absurd (true≢false (sym h))
-
-pub both_false : (s t : Bool) → s || t ≡ false → (s ≡ false) × (t ≡ false)
-both_false true t h = absurd (true≢false h)
-both_false false t h = (refl, h)
 
 pub either : (s t : Bool) {P : Type 0} → s || t ≡ true → (s ≡ true → P) → (t ≡ true → P) → P
 either true t h f g = f refl
@@ -64,7 +52,7 @@ module _ (op : Bool → Bool → Bool) (value : Bool) (apart : (s t : Bool) → 
   at_place a (b ∷ l) h (suc (suc i)) = at_place (op a b) l h (suc i)
 
 pub each : (a : Bool) (l : List Bool) → joined ◌&&◌ a l ≡ true → (i : ℕ) → get_or (a ∷ l) i true ≡ true
-each = at_place ◌&&◌ true both_true
+each = at_place ◌&&◌ true and_parts
 
 pub none : (a : Bool) (l : List Bool) → joined ◌||◌ a l ≡ false → (i : ℕ) → get_or (a ∷ l) i false ≡ false
-none = at_place ◌||◌ false both_false
+none = at_place ◌||◌ false or_parts

@@ -49,8 +49,7 @@ pub fn rounded(x: i64, d: i64, tie: Tie) -> i64
     let q = x / d;
     let r = x % d;
     let size = r.unsigned_abs();
-    // `as`: the divisor is positive.
-    let left = d as u64 - size;
+    let left = d.unsigned_abs() - size;
     let goes_on = (left < size) | ((left == size) & tie_goes_on(q, tie));
     if goes_on { farther(q, x) } else { q }
 }

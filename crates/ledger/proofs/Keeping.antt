@@ -13,7 +13,7 @@ use Prim.Native.Nat.{ℕ}
 use native.Mathlib.Omega.{arith}
 use lib.ListN.{length-set, length-replicate, set}
 use borrow.Author.Tests.{eqb-true}
-use Rattle.integers.proofs.Tests.{by_test}
+use Rattle.std.proofs.lemmas.Bool.{cond_both}
 use Rattle.calls.specs.declared.Call.TheVariants as call
 use Rattle.calls.specs.Calls.{on_trade}
 use Rattle.calls.specs.declared.Call.{Call}
@@ -91,7 +91,7 @@ fresh_within n s h = holds n (fresh n s) (fresh_held n s h)
 pub step_kept : (n : ℕ) (b : Book) (c : Call) → Shaped n b → within_limits n b ≡ true → Shaped n (step n b c).book × (within_limits n (step n b c).book ≡ true)
 unfolding step
 step_kept n b c s w =
-    by_test (is_accepted n b c) (λ x. Shaped n x × (within_limits n x ≡ true)) (λ e. (shape_kept n b c s, limits_kept n b c s (eqb-true (refusal n b c) 0 e))) (λ e. (s, w))
+    cond_both (is_accepted n b c) _ _ (λ x. Shaped n x × (within_limits n x ≡ true)) (λ e. (shape_kept n b c s, limits_kept n b c s (eqb-true (refusal n b c) 0 e))) (λ e. (s, w))
 
 pub run_kept : (n : ℕ) (b : Book) (cs : List Call) → Shaped n b → within_limits n b ≡ true → within_limits n (run n b cs) ≡ true
 unfolding run

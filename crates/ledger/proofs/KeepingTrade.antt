@@ -11,7 +11,8 @@ use lib.ListN.{length-set}
 use borrow.Author.Tests.{not-false}
 use Rattle.integers.specs.Size.{within}
 use Rattle.integers.proofs.Order.{abs_neg}
-use Rattle.integers.proofs.Tests.{tests, by_test, each}
+use Rattle.std.proofs.lemmas.Bool.{cond_both}
+use Rattle.integers.proofs.Tests.{tests, each}
 use Rattle.prices.specs.Price.{largest_price}
 use Rattle.calls.specs.declared.Call.TheVariants as call
 use Rattle.calls.specs.declared.Trade.{Trade}
@@ -88,5 +89,5 @@ module _ (n : ℕ) (b : Book) (t : Trade) (shape : Shaped n b) (h : Held n b) (p
   traded_final =
       let d = b.figures.day in
       let m = d.trades.settling in
-      by_test (is_final (day_length d) d.minutes.ended t) (λ x. HeldFinal x (sum_below n (count_at (counted b.columns.volume t)))) {x = with_trade m t} {y = m}
+      cond_both (is_final (day_length d) d.minutes.ended t) (with_trade m t) m (λ x. HeldFinal x (sum_below n (count_at (counted b.columns.volume t))))
       (λ e. omega (arith, volumes, fields.low, fields.high, h.final)) (λ e. omega (arith, volumes, h.final))

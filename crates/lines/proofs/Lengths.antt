@@ -7,7 +7,7 @@ use Prim.Native.Nat.{ℕ, zero, suc, ◌*◌, ◌≤◌}
 use native.Mathlib.Omega.{arith}
 use lib.IntN.{ℤ}
 use lib.ListN.{length, length-append}
-use Rattle.integers.proofs.Tests.{by_test}
+use Rattle.std.proofs.lemmas.Bool.{cond_both}
 use Rattle.text.proofs.Lengths.{decimal_short, signed_short}
 use Rattle.figures.specs.declared.Fixing.{Fixing}
 use Rattle.columns.specs.Columns.{entry}
@@ -27,7 +27,7 @@ line_short account position cash = simp length-append (omega (arith, decimal_sho
 
 pub account_short : (account : ℕ) (position cash : ℤ) → length (printed_account account position cash) ≤ longest_account
 account_short account position cash =
-    by_test (is_printed position cash) (λ (l : List ℕ). length l ≤ longest_account) (λ _. line_short account position cash) (λ _. omega arith)
+    cond_both (is_printed position cash) _ _ (λ (l : List ℕ). length l ≤ longest_account) (λ _. line_short account position cash) (λ _. omega arith)
 
 pub accounts_short : (n : ℕ) (position cash : List ℤ) → length (account_lines n position cash) ≤ n * longest_account
 unfolding account_lines

@@ -9,11 +9,12 @@ use mathlib.Core.Bool.{Bool, true, false, ◌&&◌, ◌||◌, or-true}
 use Prim.Native.Nat.{ℕ, ◌%◌, ◌≤◌}
 use lib.Dec.{leb, eqb}
 use borrow.Author.Tests.{leb-true, le-leb, not-true}
-use Rattle.integers.proofs.Tests.{tests, both_true}
+use Rattle.std.proofs.lemmas.Bool.{and_parts}
+use Rattle.integers.proofs.Tests.{tests}
 use Rattle.prices.specs.Price.{least_price, largest_price, tick, is_price, is_ticked, is_present, none_or_price, none_or_ticked}
 
 pub price_to : (p : ℕ) → is_price p ≡ true → (least_price ≤ p) × (p ≤ largest_price)
-price_to p h = let k = both_true (leb least_price p) (leb p largest_price) h in (leb-true least_price p k.0, leb-true p largest_price k.1)
+price_to p h = let k = and_parts (leb least_price p) (leb p largest_price) h in (leb-true least_price p k.0, leb-true p largest_price k.1)
 
 pub price_by : (p : ℕ) → least_price ≤ p → p ≤ largest_price → is_price p ≡ true
 price_by p l h = ap₂ ◌&&◌ (le-leb least_price p l) (le-leb p largest_price h)
@@ -36,4 +37,4 @@ ticked_price p h = by (eqb p 0) h
   where
     by : (t : Bool) → t || is_ticked p ≡ true → t || is_price p ≡ true
     by true h = refl
-    by false h = (both_true (is_price p) (eqb (p % tick) 0) h).0
+    by false h = (and_parts (is_price p) (eqb (p % tick) 0) h).0

@@ -15,7 +15,7 @@ use lib.Dec.{eqb}
 use lib.ListN.{length, take, drop, get_or, length-append, length-drop}
 use Rattle.std.proofs.lemmas.List.{length-take}
 use Rattle.text.specs.Text.{Room}
-use Rattle.integers.proofs.Tests.{by_test}
+use Rattle.std.proofs.lemmas.Bool.{cond_both}
 use Rattle.lines.specs.Lines.{refused_line}
 use Rattle.ledger.specs.Step.{opening}
 use Rattle.lines.proofs.Lengths.{longest_account, refused_short, day_short, accounts_short}
@@ -67,7 +67,7 @@ printed_short : (size : ℕ) (file : List ℕ) → length file ≤ most_input �
 printed_short size file h =
     let o = opening accounts size in
     let short : length (cond (eqb o.code 0) (lines_of size file).text (refused_line o.code 0)) ≤ most_input * longest_text =
-    by_test (eqb o.code 0) (λ (l : List ℕ). length l ≤ most_input * longest_text) (λ _. omega (arith, h, records_short o.book file)) (λ _. omega (arith, refused_short o.code 0)) in
+    cond_both (eqb o.code 0) _ _ (λ (l : List ℕ). length l ≤ most_input * longest_text) (λ _. omega (arith, h, records_short o.book file)) (λ _. omega (arith, refused_short o.code 0)) in
     rw (length-append) (omega (arith, short))
 
 pub printout_short : (input : List ℕ) → Room 0 (printout input)

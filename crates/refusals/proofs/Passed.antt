@@ -9,7 +9,7 @@ use mathlib.Core.List.{List, [], ◌∷◌}
 use Prim.Native.Nat.{ℕ, zero, suc}
 use lib.Dec.{eqb}
 use borrow.Author.Tests.{eq-eqb}
-use Rattle.integers.proofs.Tests.{both_true, both_false}
+use Rattle.std.proofs.lemmas.Bool.{and_parts, or_parts}
 use Rattle.calls.specs.declared.Call.{Call}
 use Rattle.refusals.specs.Refusals.{is_full, halt_forbids, outside_field, crossed, unpriced, Accounts, sentences, first_met}
 
@@ -29,17 +29,17 @@ other m n h e = true≢false (sym h ∙ rw (eq-eqb m n e))
 
 pub unmet : (l : List (ℕ × Bool)) → is_none 0 l ≡ true → first_met l ≡ 0 → (i : ℕ) → met_at l i ≡ false
 unmet [] some h i = refl
-unmet ((number, true) ∷ rest) some h i = absurd (other number 0 (both_true (not (eqb number 0)) (is_none 0 rest) some).0 h)
+unmet ((number, true) ∷ rest) some h i = absurd (other number 0 (and_parts (not (eqb number 0)) (is_none 0 rest) some).0 h)
 unmet ((number, false) ∷ rest) some h zero = refl
-unmet ((number, false) ∷ rest) some h (suc i) = unmet rest (both_true (not (eqb number 0)) (is_none 0 rest) some).1 h i
+unmet ((number, false) ∷ rest) some h (suc i) = unmet rest (and_parts (not (eqb number 0)) (is_none 0 rest) some).1 h i
 
 pub never_met : (number : ℕ) (l : List (ℕ × Bool)) → is_none number ((0, false) ∷ l) ≡ true → first_met l ≡ number → ⊥
-never_met number [] none h = other 0 number (both_true (not (eqb 0 number)) true none).0 h
+never_met number [] none h = other 0 number (and_parts (not (eqb 0 number)) true none).0 h
 never_met number ((m, true) ∷ rest) none h =
-    other m number (both_true (not (eqb m number)) (is_none number rest) (both_true (not (eqb 0 number)) (not (eqb m number) && is_none number rest) none).1).0 h
+    other m number (and_parts (not (eqb m number)) (is_none number rest) (and_parts (not (eqb 0 number)) (not (eqb m number) && is_none number rest) none).1).0 h
 never_met number ((m, false) ∷ rest) none h =
-    let start = both_true (not (eqb 0 number)) (not (eqb m number) && is_none number rest) none in
-    never_met number rest (rw (start.0, (both_true (not (eqb m number)) (is_none number rest) start.1).1)) h
+    let start = and_parts (not (eqb 0 number)) (not (eqb m number) && is_none number rest) none in
+    never_met number rest (rw (start.0, (and_parts (not (eqb m number)) (is_none number rest) start.1).1)) h
 
 pub record Passed (closed : ℕ) (forbidden halted : Bool) (found : ℕ) (c : Call) (a : Accounts) : Type 0 where
   pub full : is_full closed ≡ false
@@ -56,6 +56,6 @@ pub passed : (closed : ℕ) (forbidden halted : Bool) (price : ℕ) (c : Call) (
     → Passed closed forbidden halted price c a
 passed closed forbidden halted price c a h =
     let u = unmet (sentences closed forbidden halted price c a) refl h in
-    let days = both_false (is_full closed) forbidden (u 0) in
-    let fields = both_false a.missing (outside_field c) (u 2) in
+    let days = or_parts (is_full closed) forbidden (u 0) in
+    let fields = or_parts a.missing (outside_field c) (u 2) in
     record { full = days.0; day = days.1; halt = u 1; accounts = fields.0; field = fields.1; market = u 3; volume = u 4; position = u 5; price = u 6 }

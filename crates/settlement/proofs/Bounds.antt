@@ -10,13 +10,14 @@ use native.Mathlib.Omega.{arith}
 use lib.Dec.{eqb}
 use lib.IntN.{ℤ, pos, neg_ℤ, nat_abs, ◌*ℤ◌}
 use lib.Signed.{lt_z}
+use borrow.Author.Differences.{ints}
 use borrow.Author.Tests.{eqb-false, not-true}
 use Rattle.integers.specs.declared.Tie.{Tie}
 use Rattle.integers.specs.declared.Tie.TheVariants.{Even}
-use Rattle.integers.proofs.Laws.{neg_up, neg_dn}
-use Rattle.integers.proofs.Order.{ints, size, apart, abs_neg, abs_mul}
+use Rattle.integers.proofs.Order.{size, apart, abs_neg}
 use Rattle.integers.proofs.Rounding.{rounded_le, nearest_le, nearest_ge}
-use Rattle.integers.proofs.Tests.{by_test, both_true}
+use Rattle.std.proofs.lemmas.Bool.{and_parts, cond_both}
+use Rattle.std.proofs.lemmas.Int.{unsigned_abs-mul}
 use Rattle.prices.specs.Price.{least_price, largest_price, is_price, is_present, none_or_price}
 use Rattle.prices.proofs.Prices.{price_by, none_or_price-price}
 use Rattle.funding.specs.declared.Terms.{Terms}
@@ -28,11 +29,11 @@ use Rattle.settlement.specs.Fixing.{clamped_to, amount_of, average_price, index_
 pub clamped_size : (t : Terms) (r : ℤ) (n : ℕ) → t.below ≤ n → t.above ≤ n → nat_abs (clamped_to t r) ≤ n
 clamped_size t r n hb ha =
     let low = neg_ℤ (pos t.below) in
-    by_test (lt_z r low) (λ z. nat_abs z ≤ n)
+    cond_both (lt_z r low) _ _ (λ z. nat_abs z ≤ n)
     (λ e. omega (arith, abs_neg (pos t.below)))
-    (λ e. by_test (lt_z (pos t.above) r) (λ z. nat_abs z ≤ n)
+    (λ e. cond_both (lt_z (pos t.above) r) _ _ (λ z. nat_abs z ≤ n)
     (λ f. ha)
-    (λ f. omega (ints, size r, apart r, neg_up (pos t.below), neg_dn (pos t.below))))
+    (λ f. omega (arith, ints, size r, apart r)))
 
 -- price × size, and the rate times it, for a rate, a price and a size within limits
 module _ (r : ℤ) (P size : ℕ) (most-rate most-price most-size : ℕ) (hr : nat_abs r ≤ most-rate) (hP : P ≤ most-price) (hs : size ≤ most-size) where
@@ -50,7 +51,7 @@ module _ (r : ℤ) (P size : ℕ) (most-rate most-price most-size : ℕ) (hr : n
   pub amount_size : (tie : Tie) (most : ℕ) → most-rate * (most-price * most-size) ≤ most * 100000000000 → nat_abs (amount_of tie r P size) ≤ most
   amount_size tie most h =
       rounded_le tie (neg_ℤ r *ℤ pos (P * size)) 100000000000 most (omega arith)
-      (omega (arith, abs_mul (neg_ℤ r) (pos (P * size)), ap (λ n. n * (P * size)) (abs_neg r), product_size))
+      (omega (arith, unsigned_abs-mul (neg_ℤ r) (pos (P * size)), ap (λ n. n * (P * size)) (abs_neg r), product_size))
 
 average_is_price : (traded : FinalMinute) → is_present traded.contracts ≡ true → least_price * traded.contracts ≤ traded.gross → traded.gross ≤ largest_price * traded.contracts → is_price (average_price traded) ≡ true
 average_is_price traded g l h =
@@ -62,13 +63,13 @@ index_is_price : (index : ℕ) (previous : Previous) → none_or_price (index_pr
 index_is_price index previous =
     let p = index + previous.price - previous.index in
     let given = is_present index && is_present previous.price && is_present previous.index in
-    by_test (given && is_price p) (λ q. none_or_price q ≡ true) (λ e. none_or_price-price p (both_true given (is_price p) e).1) (λ e. refl)
+    cond_both (given && is_price p) _ _ (λ q. none_or_price q ≡ true) (λ e. none_or_price-price p (and_parts given (is_price p) e).1) (λ e. refl)
 
 -- the settlement price is none or a price, where the set price is and the final minute's contracts were traded at prices
 pub settlement_is_price : (set : ℕ) (traded : FinalMinute) (index : ℕ) (previous : Previous) → none_or_price set ≡ true → least_price * traded.contracts ≤ traded.gross → traded.gross ≤ largest_price * traded.contracts → none_or_price (settlement_price set traded index previous) ≡ true
 settlement_is_price set traded index previous hs l h =
-    by_test (is_present set) (λ p. none_or_price p ≡ true)
+    cond_both (is_present set) _ _ (λ p. none_or_price p ≡ true)
     (λ e. hs)
-    (λ e. by_test (is_present traded.contracts) (λ p. none_or_price p ≡ true)
+    (λ e. cond_both (is_present traded.contracts) _ _ (λ p. none_or_price p ≡ true)
     (λ g. none_or_price-price (average_price traded) (average_is_price traded g l h))
     (λ g. index_is_price index previous))

@@ -11,13 +11,15 @@ use lib.Signed.{rem_z, quot_z}
 use mir.Syntax.{w64}
 use mir.Val.{SFits, to_z, of_z}
 use mir.Facts.{to_z-of_z}
+use borrow.Author.Differences.{fits_out, lt_out}
 use borrow.Author.Tests.{ltb-true, eqb-true}
+use Rattle.std.proofs.lemmas.Int.{quot_is, rem_is, quot_fits, rem_below}
 use Rattle.integers.specs.Rounding.{with_sign_of, on_tie}
-use Rattle.integers.proofs.Order.{size, fits_abs, lt_to, <ℤ-weaken}
-use Rattle.integers.proofs.Machine.{bits_pos, quot_fits, rem_fits, rem_lt, quot_rem_size, as_unsigned}
+use Rattle.integers.proofs.Order.{size, apart}
+use Rattle.integers.proofs.Machine.{bits_pos, quot_rem_size}
 use Rattle.integers.proofs.Rounding.{stays, goes_on}
 use Rattle.integers.proofs.rounded.Goals as goal
-use Rattle.integers.proofs.rounded.Goals.{After-unsigned_abs-size, After-tie_goes_on, Start, Then-goes_on}
+use Rattle.integers.proofs.rounded.Goals.{After-unsigned_abs-size, After-unsigned_abs, After-tie_goes_on, Start, Then-goes_on}
 
 module _ (s : Start) where
   x_back : to_z w64 (of_z w64 s.args.x) ≡ s.args.x
@@ -27,37 +29,35 @@ module _ (s : Start) where
   d_back = to_z-of_z s.ranges.d
 
   q_fits : SFits w64 (quot_z s.args.x s.args.d)
-  q_fits = quot_fits s.args.x s.args.d s.ranges.x s.requires
-
-  q_back : to_z w64 (of_z w64 (quot_z s.args.x s.args.d)) ≡ quot_z s.args.x s.args.d
-  q_back = to_z-of_z q_fits
-
-  r_back : to_z w64 (of_z w64 (rem_z s.args.x s.args.d)) ≡ rem_z s.args.x s.args.d
-  r_back = to_z-of_z (rem_fits s.args.x s.args.d s.ranges.x)
+  q_fits = quot_fits w64 s.args.x s.args.d s.ranges.x s.requires
 
   d_size : 0 < nat_abs s.args.d
-  d_size = omega (arith, lt_to s.requires, size s.args.d)
+  d_size = omega (arith, lt_out _ _ s.requires, size s.args.d)
 
   -- a divisor that a remainder is at least half of is at least 2, and the quotient at most half of the dividend
   q_half : nat_abs s.args.d ≤ 2 * nat_abs (rem_z s.args.x s.args.d) → nat_abs (quot_z s.args.x s.args.d) ≤ 4611686018427387903
   q_half h =
-      let r = rem_lt s.args.x s.args.d d_size in
+      let r = rem_below s.args.x s.args.d d_size in
       let l : 2 ≤ nat_abs s.args.d = omega arith in
-      omega (arith, quot_rem_size s.args.x s.args.d, fits_abs s.ranges.x, mul-le-mul_right (nat_abs (quot_z s.args.x s.args.d)) l)
+      omega (arith, quot_rem_size s.args.x s.args.d, size s.args.x, apart s.args.x, fits_out w64 _ s.ranges.x, mul-le-mul_right (nat_abs (quot_z s.args.x s.args.d)) l)
 
   q_small : nat_abs s.args.d ≤ 2 * nat_abs (rem_z s.args.x s.args.d) → nat_abs (quot_z s.args.x s.args.d) + 1 < 2 ^ 63
   q_small h = omega (arith, q_half h)
 
   -- what the machine has of the quotient
   q_is : to_z w64 (of_z w64 (quot_z (to_z w64 (of_z w64 s.args.x)) (to_z w64 (of_z w64 s.args.d)))) ≡ quot_z s.args.x s.args.d
-  q_is = ap₂ (λ x d. to_z w64 (of_z w64 (quot_z x d))) x_back d_back ∙ q_back
+  q_is = quot_is w64 s.args.x s.args.d s.ranges.x s.ranges.d q_fits
 
 -- the remainder's size, and that it is below the divisor
 size_is : (c : After-unsigned_abs-size) → c.unsigned_abs-size.result ≡ nat_abs (rem_z c.args.x c.args.d)
-size_is c = c.unsigned_abs-size.ensures.value ∙ ap nat_abs (ap₂ (λ x d. to_z w64 (of_z w64 (rem_z x d))) (x_back c.before) (d_back c.before) ∙ r_back c.before)
+size_is c = c.unsigned_abs-size.ensures.value ∙ ap nat_abs (rem_is w64 c.args.x c.args.d c.ranges.x c.ranges.d)
 
 size_below : (c : After-unsigned_abs-size) → c.unsigned_abs-size.result < nat_abs c.args.d
-size_below c = rw (size_is c) (rem_lt c.args.x c.args.d (d_size c.before))
+size_below c = rw (size_is c) (rem_below c.args.x c.args.d (d_size c.before))
+
+-- the divisor's size
+divisor_is : (c : After-unsigned_abs) → c.unsigned_abs.result ≡ nat_abs c.args.d
+divisor_is c = c.unsigned_abs.ensures.value ∙ ap nat_abs (d_back c.before.before)
 
 -- what `farther` gives, after any of its two calls
 farther_is : (s : Start) {q x r : ℤ} → SFits w64 r → q ≡ quot_z s.args.x s.args.d → x ≡ s.args.x → r ≡ q +ℤ with_sign_of x 1 → to_z w64 (of_z w64 r) ≡ quot_z s.args.x s.args.d +ℤ with_sign_of s.args.x 1
@@ -69,15 +69,12 @@ nonzero_div-q c = rw (x_back c, d_back c) (bits_pos w64 c.requires, q_fits c)
 pub nonzero_rem-r : goal.nonzero_rem-r
 nonzero_rem-r c = nonzero_div-q c
 
-pub overflow_cast-left : goal.overflow_cast-left
-overflow_cast-left c = rw (d_back c.before) (as_unsigned (<ℤ-weaken c.requires) c.ranges.d)
-
 pub overflow_sub-left : goal.overflow_sub-left
-overflow_sub-left c = rw (d_back c.before) (omega (arith, size_below c))
+overflow_sub-left c = omega (arith, divisor_is c, size_below c.before)
 
 module _ (c : After-tie_goes_on) where
   abbrev start : Start
-  start = c.before.before
+  start = c.before.before.before
 
   abbrev quotient : ℕ
   quotient = nat_abs (quot_z start.args.x start.args.d)
@@ -89,19 +86,19 @@ module _ (c : After-tie_goes_on) where
   left = nat_abs start.args.d - rest
 
   left_is : left + rest ≡ nat_abs start.args.d
-  left_is = omega (arith, size_is c.before, size_below c.before)
+  left_is = omega (arith, size_is c.before.before, size_below c.before.before)
 
   tie_is : on_tie start.args.tie quotient ≡ quotient + cond c.tie_goes_on.result 1 0
   tie_is = rw (q_is start) at c.tie_goes_on.ensures
 
-  abbrev goes : ℤ → ℕ → Bool
-  goes d r = ltb (nat_abs d - r) r || (eqb (nat_abs d - r) r && c.tie_goes_on.result)
+  abbrev goes : ℕ → ℕ → Bool
+  goes d r = ltb (d - r) r || (eqb (d - r) r && c.tie_goes_on.result)
 
   -- what the machine tests
-  test_is : goes (to_z w64 (of_z w64 start.args.d)) c.unsigned_abs-size.result ≡ goes start.args.d rest
-  test_is = ap₂ goes (d_back start) (size_is c.before)
+  test_is : goes c.unsigned_abs.result c.unsigned_abs-size.result ≡ goes (nat_abs start.args.d) rest
+  test_is = ap₂ goes (divisor_is c.before) (size_is c.before.before)
 
-goes_is : (c : Then-goes_on) → let a = c.before in goes a (start a).args.d (rest a) ≡ true
+goes_is : (c : Then-goes_on) → let a = c.before in goes a (nat_abs (start a).args.d) (rest a) ≡ true
 goes_is c = sym (test_is c.before) ∙ c.if-goes_on.true
 
 reached : (l r d : ℕ) (g : Bool) → ltb l r || (eqb l r && g) ≡ true → l + r ≡ d → d ≤ 2 * r

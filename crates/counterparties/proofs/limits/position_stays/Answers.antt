@@ -7,11 +7,11 @@ use lib.Dec.{eqb}
 use lib.IntN.{pos, neg_ℤ, ◌+ℤ◌, ◌-ℤ◌}
 use mir.Syntax.{w32}
 use mir.Val.{Fits}
+use borrow.Author.Differences.{sum_is_lem, neg_is}
 use borrow.Author.Rules.{rules}
-use Rattle.integers.proofs.Laws.{add_is, neg_up, neg_dn}
 use Rattle.integers.proofs.Order.{size, apart, not_above, not_below}
 use Rattle.integers.proofs.Overflow.{arg, add, sub, val, Within, ◌▹◌, done, runs}
-use Rattle.integers.proofs.Tests.{by_test}
+use Rattle.std.proofs.lemmas.Bool.{cond_both}
 use Rattle.columns.specs.Columns.{entry}
 use Rattle.columns.specs.Limits.{most_position}
 use Rattle.counterparties.proofs.Raised.{buyer_entry, seller_entry}
@@ -26,7 +26,7 @@ returns c =
     let b = entry l t.buyer in
     let a = entry l t.seller in
     let quantity : Fits w32 t.quantity = search rules in
-    let moved : c.moves.result ≤ 4294967295 = rw c.moves.ensures (by_test (eqb t.buyer t.seller) (λ n. n ≤ 4294967295) (λ e. omega arith) (λ e. omega arith)) in
+    let moved : c.moves.result ≤ 4294967295 = rw c.moves.ensures (cond_both (eqb t.buyer t.seller) _ _ (λ n. n ≤ 4294967295) (λ e. omega arith) (λ e. omega arith)) in
     let within : Within (val b ∷ val a ∷ val q ∷ []) (most_position ∷ most_position ∷ 4294967295 ∷ []) = p.buyer ▹ p.seller ▹ moved ▹ done in
     rw (
       c.from-i.ensures,
@@ -34,8 +34,8 @@ returns c =
       c.from-moved.ensures,
       runs within (add (arg 0) (arg 2)) tt,
       runs within (sub (arg 1) (arg 2)) tt,
-      not_above (b +ℤ q) most_position (omega (arith, p.buyer, size b, add_is b q, apart (b +ℤ q))),
-      not_below (a -ℤ q) most_position (omega (arith, p.seller, size a, add_is a (neg_ℤ q), neg_up q, neg_dn q, apart (a -ℤ q))),
+      not_above (b +ℤ q) most_position (omega (arith, p.buyer, size b, sum_is_lem b q, apart (b +ℤ q))),
+      not_below (a -ℤ q) most_position (omega (arith, p.seller, size a, sum_is_lem a (neg_ℤ q), neg_is q, apart (a -ℤ q))),
       c.moves.ensures,
       buyer_entry l t.buyer t.seller t.quantity p.buyer_in p.seller_in,
       seller_entry l t.buyer t.seller t.quantity p.buyer_in p.seller_in,
