@@ -13,15 +13,11 @@ use Rattle.history.proofs.Demand3.{demand_three}
 use Rattle.dayfile.specs.Calls.{calls_of}
 use Rattle.host.specs.Run.{run_file, Settled}
 
-length_reversed : (cs h : List Call) → length (reverse_aux cs h) ≡ length cs + length h
-length_reversed [] h = omega arith
-length_reversed (c ∷ cs) h = omega (arith, length_reversed cs (c ∷ h))
-
 pub settled : (size : ℕ) (file : List ℕ) → (opening accounts size).code ≡ 0 → Settled size file (run_file size file).accepted (run_file size file).book.columns.position (run_file size file).book.columns.cash
 settled size file e =
     let d = demand_three accounts size (calls_of file) e in
     record {
-      calls = omega (arith, length_reversed (accepted_calls accounts (opening accounts size).book (calls_of file)) []);
+      calls = length-reverse_aux (accepted_calls accounts (opening accounts size).book (calls_of file)) [] ∙ add-zero _;
       position = d.position;
       paid = d.cash;
       positions_cancel = d.positions_cancel;
