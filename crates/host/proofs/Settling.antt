@@ -1,12 +1,10 @@
 -- What a run over a file comes to, by demand 3.
 --     settled           the book where the run ended has the figures of the history of the file's calls
 -- Assumes nothing.
-use mathlib.Core.Path.{◌≡◌}
-use mathlib.Core.List.{List, [], ◌∷◌, reverse_aux}
-use Prim.Native.Nat.{ℕ, ◌+◌}
-use native.Mathlib.Omega.{arith}
-use lib.ListN.{length}
-use Rattle.calls.specs.declared.Call.{Call}
+use mathlib.Core.Path.{◌≡◌, sym}
+use mathlib.Core.List.{List}
+use Prim.Native.Nat.{ℕ}
+use lib.ListN.{length-reverse}
 use Rattle.columns.specs.Columns.{accounts}
 use Rattle.ledger.specs.Step.{accepted_calls, opening}
 use Rattle.history.proofs.Demand3.{demand_three}
@@ -17,7 +15,7 @@ pub settled : (size : ℕ) (file : List ℕ) → (opening accounts size).code �
 settled size file e =
     let d = demand_three accounts size (calls_of file) e in
     record {
-      calls = length-reverse_aux (accepted_calls accounts (opening accounts size).book (calls_of file)) [] ∙ add-zero _;
+      calls = sym (length-reverse (accepted_calls accounts (opening accounts size).book (calls_of file)));
       position = d.position;
       paid = d.cash;
       positions_cancel = d.positions_cancel;
