@@ -2,8 +2,8 @@
 --     at_end      nothing, at the file's end or past it
 --     cut_off     a record that ends past the file's end
 --     whole       a complete record
---     right_length, wrong_length     a complete record of a known tag
---     record_at, known_at     a record at a place is complete, and is read as its call
+--     right_length   a complete record of a known tag, whose stated length is its own
+--     known_at    a record at a place is read as its call
 --     number_at   the number of what is read is that of the bytes
 --     refusal_at_end   the number 0 at the file's end
 -- Assumes nothing.
@@ -12,7 +12,7 @@ use mathlib.Core.Path.{◌≡◌, refl, sym, ◌∙◌, ap}
 use mathlib.Core.Bool.{Bool, true, false, not, cond, ◌&&◌}
 use mathlib.Core.List.{List, [], ◌∷◌}
 use native.Mathlib.Omega.{arith}
-use borrow.Author.Tests.{leb-true, eqb-true, le-leb, lt-leb, lt-ltb, le-ltb, eq-eqb, ne_eqb}
+use borrow.Author.Tests.{leb-true, eqb-true, le-leb, lt-leb, lt-ltb, le-ltb, eq-eqb}
 use lib.Dec.{leb, ltb, eqb}
 use lib.ListN.{length}
 use Rattle.std.proofs.lemmas.Bool.{and_parts}
@@ -42,10 +42,6 @@ module _ (file : List ℕ) (at : ℕ) where
       → complete file at (tag_of (byte_at file at)) ≡ Ok (Some (call_of file t (body_at at)))
   right_length t e h = simp (e, eq-eqb (stated_length file at) (body_length t) h)
 
-  pub wrong_length : (t : Tag) → tag_of (byte_at file at) ≡ Some t → (stated_length file at ≡ body_length t → ⊥)
-      → complete file at (tag_of (byte_at file at)) ≡ Err error.WrongLength
-  wrong_length t e h = simp (e, ne_eqb (stated_length file at) (body_length t) h)
-
   -- a tag's byte is read as that tag
   byte_read : (t : Tag) → tag_of (byte_of t) ≡ Some t
   unfolding tag_of
@@ -67,9 +63,6 @@ module _ (file : List ℕ) (at : ℕ) where
       let k = and_parts (fits && byte) stated h in
       let j = and_parts fits byte k.0 in
       (leb-true (body_at at + body_length t) (length file) j.0, eqb-true (byte_at file at) (byte_of t) j.1, eqb-true (stated_length file at) (body_length t) k.1)
-
-  pub record_at : (t : Tag) → is_record_at file at t ≡ true → body_at at + body_length t ≤ length file
-  record_at t h = (record-tests t h).0
 
   pub known_at : (t : Tag) → is_record_at file at t ≡ true → read_at file at ≡ Some (record { next = body_at at + body_length t; call = Ok (Some (call_of file t (body_at at))) })
   known_at t h =

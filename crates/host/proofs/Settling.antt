@@ -1,27 +1,21 @@
 -- What a run over a file comes to, by demand 3.
 --     settled           the book where the run ended has the figures of the history of the file's calls
 -- Assumes nothing.
-use mathlib.Core.Path.{◌≡◌}
-use mathlib.Core.List.{List, [], ◌∷◌, reverse_aux}
-use Prim.Native.Nat.{ℕ, ◌+◌}
-use native.Mathlib.Omega.{arith}
-use lib.ListN.{length}
-use Rattle.calls.specs.declared.Call.{Call}
+use mathlib.Core.Path.{◌≡◌, sym}
+use mathlib.Core.List.{List}
+use Prim.Native.Nat.{ℕ}
+use lib.ListN.{length-reverse}
 use Rattle.columns.specs.Columns.{accounts}
 use Rattle.ledger.specs.Step.{accepted_calls, opening}
 use Rattle.history.proofs.Demand3.{demand_three}
 use Rattle.dayfile.specs.Calls.{calls_of}
 use Rattle.host.specs.Run.{run_file, Settled}
 
-length_reversed : (cs h : List Call) → length (reverse_aux cs h) ≡ length cs + length h
-length_reversed [] h = omega arith
-length_reversed (c ∷ cs) h = omega (arith, length_reversed cs (c ∷ h))
-
 pub settled : (size : ℕ) (file : List ℕ) → (opening accounts size).code ≡ 0 → Settled size file (run_file size file).accepted (run_file size file).book.columns.position (run_file size file).book.columns.cash
 settled size file e =
     let d = demand_three accounts size (calls_of file) e in
     record {
-      calls = omega (arith, length_reversed (accepted_calls accounts (opening accounts size).book (calls_of file)) []);
+      calls = sym (length-reverse (accepted_calls accounts (opening accounts size).book (calls_of file)));
       position = d.position;
       paid = d.cash;
       positions_cancel = d.positions_cancel;

@@ -1,15 +1,18 @@
 -- What a book within its limits gives the inner layer.
---     tradable, fixable, closable     what its functions require
---     step_within                     refusal 2 passes
---     on_figures, trade-answered, close-answered  the answer to a call that touches no account, to a trade and to a close, from its parts
+--     tradable, figures_held, fixable, closable     what its functions require
+--     step_within                                   refusal 2 passes
+--     on_figures, trade-answered, close-answered  the answer to a call that touches no account, to a trade and to a close, from its parts;
+--                                                   the call is known by an equation, as in an arm of a `match`
 -- Assumes nothing.
-use mathlib.Core.Path.{◌≡◌, refl, ◌∙◌, ap}
+use mathlib.Core.Path.{◌≡◌, refl, sym, ◌∙◌, ap}
 use mathlib.Core.Bool.{Bool, true, false, cond}
 use Prim.Native.Nat.{ℕ, ◌*◌, ◌<◌, ◌≤◌}
 use native.Mathlib.Omega.{arith}
 use lib.Dec.{eqb}
 use lib.IntN.{nat_abs}
 use lib.ListN.{length}
+use mir.Syntax.{w8}
+use mir.Val.{Fits}
 use Rattle.prices.specs.Price.{largest_price}
 use Rattle.calls.specs.declared.Call.TheVariants as call
 use Rattle.calls.specs.declared.Trade.{Trade}
@@ -31,7 +34,7 @@ use Rattle.ledger.specs.Step.{Answered, answer_of, answer_by, step}
 use Rattle.ledger.specs.Inner.{WithinLimits}
 use Rattle.figures.specs.declared.Figures.{Figures}
 use Rattle.figures.specs.declared.Fixing.{Fixing}
-use Rattle.figures.specs.Figures.{Outcome, outcome_of}
+use Rattle.figures.specs.Figures.{Outcome, outcome_of, figures_hold}
 use Rattle.columns.specs.declared.Columns.{Columns}
 use Rattle.refusals.specs.declared.Refusal.{Refusal}
 use Rattle.std.specs.Prelude.{Option, Result}
@@ -49,31 +52,34 @@ module _ (b : Book) (w : WithinLimits accounts b) where
   cost_most : (j : ℕ) → j < accounts → nat_abs (entry b.columns.cost j) ≤ most_volume * largest_price
   cost_most j h = let a = holds.account j h in omega (arith, a.cost, a.volume)
 
-  pub tradable : (t : Trade) → t.buyer < accounts → t.seller < accounts → Tradable b.figures b.columns t
-  tradable t hb hs =
-      let x = holds.account t.buyer hb in
-      let y = holds.account t.seller hs in
+  -- an account is a byte, so each is one of the book's
+  pub tradable : (t : Trade) → Fits w8 t.buyer → Fits w8 t.seller → Tradable b.figures b.columns t
+  tradable t buyer seller =
+      let x = holds.account t.buyer buyer.fits in
+      let y = holds.account t.seller seller.fits in
       let p : length b.columns.position ≡ accounts = w.shaped.position in
       let c : length b.columns.cost ≡ accounts = w.shaped.cost in
       let v : length b.columns.volume ≡ accounts = w.shaped.volume in
       record {
-        positions = record { buyer_in = rw p hb; seller_in = rw p hs; buyer = x.position; seller = y.position };
-        costs = record { buyer_in = rw c hb; seller_in = rw c hs; buyer = omega (arith, cost_most t.buyer hb); seller = omega (arith, cost_most t.seller hs) };
-        volumes = record { buyer_in = rw v hb; seller_in = rw v hs; buyer = omega (arith, x.volume); seller = omega (arith, y.volume) };
+        positions = record { buyer_in = rw p buyer.fits; seller_in = rw p seller.fits; buyer = x.position; seller = y.position };
+        costs = record { buyer_in = rw c buyer.fits; seller_in = rw c seller.fits; buyer = omega (arith, cost_most t.buyer buyer.fits); seller = omega (arith, cost_most t.seller seller.fits) };
+        volumes = record { buyer_in = rw v buyer.fits; seller_in = rw v seller.fits; buyer = omega (arith, x.volume); seller = omega (arith, y.volume) };
         contracts = omega (arith, contracts_most accounts b holds);
         gross = omega (arith, contracts_most accounts b holds, holds.final.high);
       }
+
+  pub figures_held : figures_hold b.figures ≡ true
+  figures_held = figures_hold-held b.figures holds.figures
 
   pub fixable : Fixable b.figures
   fixable = record { gross = holds.final.high; size = size_most b.figures.size holds.figures.size }
 
   pub closable : Closable b.figures b.columns
   closable =
-      let f = figures_hold-held b.figures holds.figures in
       record {
-        figures = f;
+        figures = figures_held;
         cash_length = w.shaped.cash;
-        postable = λ j h. record { figures = f; opening_size = (holds.account j h).opening; position_size = (holds.account j h).position; cost_size = cost_most j h };
+        postable = λ j h. record { figures = figures_held; opening_size = (holds.account j h).opening; position_size = (holds.account j h).position; cost_size = cost_most j h };
         cash_size = λ j h. omega (arith, (holds.account j h).cash, holds.figures.closed);
       }
 
@@ -97,33 +103,33 @@ same : (t : Bool) (f g : Figures) (c : Columns) → ◌≡◌ {A = Book} (record
 same true f g c = refl
 same false f g c = refl
 
-pub on_figures : (n : ℕ) (b : Book) (c : Call) (w : WithinLimits n b) (r : Called) (f : Figures) → first_met (sentences_of n b c) ≡ figures_refusal b.figures c → effect n b c ≡ with_figures b (figures_after b.figures c) → outcome_of r f ≡ outcome b.figures c → answer_of r (record { figures = f; columns = b.columns }) ≡ step n b c
-on_figures n b c w r f number after e =
-    ap (with_columns b.columns) e ∙ (by_number ∙ step_within n b c w)
-  where
-    by_number : with_columns b.columns (outcome b.figures c) ≡ answered n b c
-    by_number = rw (number, after, same (eqb (figures_refusal b.figures c) 0) (figures_after b.figures c) b.figures b.columns)
+module _ {n : ℕ} {b : Book} (w : WithinLimits n b) {c : Call} {f : Figures} where
+  pub on_figures : {d : Call} → c ≡ d → (r : Called) → first_met (sentences_of n b d) ≡ figures_refusal b.figures d → effect n b d ≡ with_figures b (figures_after b.figures d) → outcome_of r f ≡ outcome b.figures d → answer_of r (record { figures = f; columns = b.columns }) ≡ step n b c
+  on_figures {d} is r number after e = ap (with_columns b.columns) e ∙ by_number ∙ step_within n b d w ∙ ap (step n b) (sym is)
+    where
+      by_number : with_columns b.columns (outcome b.figures d) ≡ answered n b d
+      by_number = rw (number, after, same (eqb (figures_refusal b.figures d) 0) (figures_after b.figures d) b.figures b.columns)
 
-pub trade-answered : (n : ℕ) (b : Book) (t : Trade) (w : WithinLimits n b) (r : Called) (f : Figures) (columns : Columns) → TradeAnswered n b.figures b.columns t r f columns → answer_of r (record { figures = f; columns = columns }) ≡ step n b (call.Trade t)
-unfolding effect
-trade-answered n b t w r f columns a = ap (with_columns columns) a.outcome ∙ (by_number ∙ step_within n b (call.Trade t) w)
-  where
-    by_number : with_columns columns (outcome_by (trade_refusal n b.figures b.columns t) b.figures (call.Trade t)) ≡ answered n b (call.Trade t)
-    by_number =
-        rw (
-          a.columns,
-          ap (λ (o : Outcome). o.code) a.outcome,
-          through (eqb (trade_refusal n b.figures b.columns t) 0) (figures_after b.figures (call.Trade t)) b.figures (traded_columns b.columns t) b.columns,
-        )
+  pub trade-answered : {t : Trade} {r : Called} {columns : Columns} → c ≡ call.Trade t → TradeAnswered n b.figures b.columns t r f columns → answer_of r (record { figures = f; columns = columns }) ≡ step n b c
+  unfolding effect
+  trade-answered {t} {columns} is a = ap (with_columns columns) a.outcome ∙ by_number ∙ step_within n b (call.Trade t) w ∙ ap (step n b) (sym is)
+    where
+      by_number : with_columns columns (outcome_by (trade_refusal n b.figures b.columns t) b.figures (call.Trade t)) ≡ answered n b (call.Trade t)
+      by_number =
+          rw (
+            a.columns,
+            ap (λ (o : Outcome). o.code) a.outcome,
+            through (eqb (trade_refusal n b.figures b.columns t) 0) (figures_after b.figures (call.Trade t)) b.figures (traded_columns b.columns t) b.columns,
+          )
 
-pub close-answered : (n : ℕ) (b : Book) (w : WithinLimits n b) (r : Called) (f : Figures) (columns : Columns) → CloseAnswered n b.figures b.columns r f columns → answer_of r (record { figures = f; columns = columns }) ≡ step n b call.Close
-unfolding effect
-close-answered n b w r f columns a = ap (with_columns columns) a.answer ∙ (by_number ∙ step_within n b call.Close w)
-  where
-    by_number : with_columns columns (outcome b.figures call.Close) ≡ answered n b call.Close
-    by_number =
-        rw (
-          a.columns,
-          ap (λ (o : Outcome). o.code) a.answer,
-          through (eqb (figures_refusal b.figures call.Close) 0) (figures_after b.figures call.Close) b.figures (closed_columns n b.figures b.columns) b.columns,
-        )
+  pub close-answered : {r : Called} {columns : Columns} → c ≡ call.Close → CloseAnswered n b.figures b.columns r f columns → answer_of r (record { figures = f; columns = columns }) ≡ step n b c
+  unfolding effect
+  close-answered {columns} is a = ap (with_columns columns) a.answer ∙ by_number ∙ step_within n b call.Close w ∙ ap (step n b) (sym is)
+    where
+      by_number : with_columns columns (outcome b.figures call.Close) ≡ answered n b call.Close
+      by_number =
+          rw (
+            a.columns,
+            ap (λ (o : Outcome). o.code) a.answer,
+            through (eqb (figures_refusal b.figures call.Close) 0) (figures_after b.figures call.Close) b.figures (closed_columns n b.figures b.columns) b.columns,
+          )

@@ -6,7 +6,7 @@ ghost use Rattle.text.specs.Text.{Puts};
 ghost use Rattle.columns.specs.Columns.{accounts};
 ghost use Rattle.lines.specs.Lines.{refused_line, day_line, account_line, is_printed, printed_account, account_lines};
 
-use columns::ACCOUNTS;
+use columns::{ACCOUNTS, Account, Columns};
 use figures::Fixing;
 use text::Window;
 
@@ -30,13 +30,13 @@ pub fn put_day(window: &mut Window, day: u64, fixing: Fixing)
     window.put(b"\n");
 }
 
-// An account's line has two of its five entries, so that these are parameters.
-fn put_account(window: &mut Window, account: usize, position: i64, cash: i64)
-    ensures { Puts window.old (account_line account position cash) window.new }
+// An account's line has two of its five entries.
+fn put_account(window: &mut Window, account: usize, entries: Account)
+    ensures { Puts window.old (account_line account entries.position entries.cash) window.new }
 {
     window.put_number(b"acct ", account);
-    window.put_number(b" net ", position);
-    window.put_number(b" cash ", cash);
+    window.put_number(b" net ", entries.position);
+    window.put_number(b" cash ", entries.cash);
     window.put(b"\n");
 }
 
@@ -48,19 +48,20 @@ fn is_printed(position: i64, cash: i64) -> bool
 }
 
 // The line of an account that is printed, nothing for another.
-fn put_nonzero(window: &mut Window, account: usize, position: i64, cash: i64)
-    ensures { Puts window.old (printed_account account position cash) window.new }
+#[tactic(auto, using(text::proofs::Placing::puts_nothing))]
+fn put_nonzero(window: &mut Window, account: usize, entries: Account)
+    ensures { Puts window.old (printed_account account entries.position entries.cash) window.new }
 {
-    if is_printed(position, cash) {
-        put_account(window, account, position, cash);
+    if is_printed(entries.position, entries.cash) {
+        put_account(window, account, entries);
     }
 }
 
 // A line for each account that is printed.
-pub fn put_accounts(window: &mut Window, position: &[i64; ACCOUNTS], cash: &[i64; ACCOUNTS])
-    ensures { Puts window.old (account_lines accounts position.now cash.now) window.new }
+pub fn put_accounts(window: &mut Window, columns: &Columns)
+    ensures { Puts window.old (account_lines accounts columns.now.position columns.now.cash) window.new }
 {
-    for (account, (position, cash)) in position.iter().zip(cash).enumerate() {
-        put_nonzero(window, account, *position, *cash);
+    for i in 0..ACCOUNTS {
+        put_nonzero(window, i, columns.account(i));
     }
 }

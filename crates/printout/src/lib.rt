@@ -23,7 +23,7 @@ fn put_printed(window: &mut Window, printed: Option<Printed>, columns: &Columns)
     match printed {
         Some(Printed::Refused { number, place }) => put_refused(window, number, place),
         Some(Printed::Day { day, fixing }) => put_day(window, day, fixing),
-        Some(Printed::Accounts) => put_accounts(window, &columns.position, &columns.cash),
+        Some(Printed::Accounts) => put_accounts(window, columns),
         None => {}
     }
 }

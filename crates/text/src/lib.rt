@@ -38,6 +38,7 @@ impl Window<'_> {
     }
 
     // Puts a label and a number after it, in decimal.
+    #[tactic(auto, using(std::proofs::lemmas::Grind::common_steps, crate::proofs::Placing::placed_append))]
     pub fn put_number<N: Integer>(&mut self, label: &[u8], number: N)
         ensures { Puts self.old (label.now ++ N.text number) self.new }
     {

@@ -1,6 +1,5 @@
 -- `CheckedBook::trade` meets its contract, and leaves a book within its limits.
-use mir.Syntax.{w8}
-use mir.Val.{Fits}
+use mathlib.Core.Path.{refl}
 use borrow.Author.Rules.{rules}
 use Rattle.calls.specs.declared.Call.TheVariants as call
 use Rattle.columns.specs.Columns.{accounts}
@@ -10,19 +9,13 @@ use Rattle.ledger.proofs.checked.CheckedBook.trade.Goals as goal
 
 pub trade-requires : goal.trade-requires
 trade-requires c =
-    let t = c.args.trade in
     let k = c.args.self.now in
-    let buyer : Fits w8 t.buyer = search rules in
-    let seller : Fits w8 t.seller = search rules in
-    tradable k.book k.within t buyer.fits seller.fits
+    tradable k.book k.within c.args.trade (search rules) (search rules)
 
 pub returns : goal.returns
-returns c =
-    let k = c.args.self.now in
-    trade-answered accounts k.book c.args.trade k.within c.trade.result c.trade.new.figures c.trade.new.columns c.trade.ensures
+returns c = trade-answered c.args.self.now.within refl c.trade.ensures
 
 pub invariant_of-self : goal.invariant_of-self
 invariant_of-self c =
     let k = c.args.self.now in
-    let t = c.args.trade in
-    record { within = still_within accounts k.book (call.Trade t) k.within _ (trade-answered accounts k.book t k.within c.trade.result c.trade.new.figures c.trade.new.columns c.trade.ensures) }
+    record { within = still_within accounts k.book (call.Trade c.args.trade) k.within _ (trade-answered k.within refl c.trade.ensures) }
