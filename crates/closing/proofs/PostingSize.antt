@@ -2,7 +2,7 @@
 use Prim.Native.Nat.{◌*◌, ◌+◌, ◌≤◌}
 use native.Mathlib.Omega.{arith}
 use lib.IntN.{◌*ℤ◌, ◌-ℤ◌, nat_abs, pos, ℤ}
-use Rattle.integers.proofs.Order.{abs_add, abs_mul_le, abs_sub}
+use Rattle.integers.proofs.Sizes.{abs_add, abs_mul_le, abs_sub}
 use Rattle.prices.proofs.Prices.{price_most}
 use Rattle.prices.specs.Price.{largest_price}
 use Rattle.day.specs.Limits.{most_amount}

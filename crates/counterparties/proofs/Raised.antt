@@ -16,7 +16,7 @@ use lib.IntN.{ℤ, pos, neg_ℤ, nat_abs, ◌+ℤ◌, ◌-ℤ◌, +ℤ_assoc, +�
 use lib.ListN.{length, get_or, set, length-set}
 use lib.Seq.{get_or-set_same, get_or-set_other}
 use borrow.Author.Tests.{eqb-true, eqb-false}
-use Rattle.integers.proofs.Order.{abs_add}
+use Rattle.integers.proofs.Sizes.{abs_add}
 use Rattle.prices.specs.Price.{largest_price}
 use Rattle.columns.specs.Columns.{entry, count_at, raise, raise_count}
 

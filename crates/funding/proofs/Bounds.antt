@@ -11,7 +11,7 @@ use lib.Dec.{leb}
 use lib.IntN.{ℤ, pos, neg_ℤ, nat_abs, ◌-ℤ◌, ◌*ℤ◌}
 use borrow.Author.Differences.{sum_is_lem, neg_is}
 use Rattle.integers.specs.declared.Tie.TheVariants.{Even}
-use Rattle.integers.proofs.Order.{size, apart, abs_add}
+use Rattle.integers.proofs.Sizes.{size, apart, abs_add}
 use Rattle.integers.proofs.Rounding.{rounded_le}
 use Rattle.std.proofs.lemmas.Bool.{and_parts, cond_both}
 use Rattle.std.proofs.lemmas.Int.{unsigned_abs-mul}

@@ -1,5 +1,5 @@
 pub mod Laws
-pub mod Order
+pub mod Sizes
 pub mod Ring
 pub mod Machine
 pub mod Overflow

@@ -12,7 +12,7 @@ use lib.IntN.{ℤ, pos, negsuc, nat_abs}
 use lib.Signed.{◌<ℤ◌, quot_z, rem_z}
 use mir.Syntax.{Width}
 use mir.Val.{of_z}
-use Rattle.integers.proofs.Order.{abs_neg}
+use Rattle.integers.proofs.Sizes.{abs_neg}
 
 pub bits_pos : (w : Width) {z : ℤ} → pos 0 <ℤ z → 0 < of_z w z
 bits_pos w {z = pos n} h = omega (arith, lt_out (pos 0) (pos n) h)

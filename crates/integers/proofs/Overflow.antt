@@ -19,7 +19,7 @@ use mir.Syntax.{w64}
 use mir.Val.{SFits, to_z, of_z}
 use mir.Facts.{to_z-of_z, to_z_pos}
 use Rattle.std.proofs.lemmas.Int.{fits_signed_from_abs}
-use Rattle.integers.proofs.Order.{abs_add, abs_sub, abs_mul_le}
+use Rattle.integers.proofs.Sizes.{abs_add, abs_sub, abs_mul_le}
 
 pub data Slot : Type 0 where
   val : ℤ → Slot

@@ -19,7 +19,7 @@ use lib.Signed.{quot_z, rem_z, ◌<ℤ◌}
 use Rattle.integers.specs.declared.Tie.{Tie}
 use Rattle.integers.specs.declared.Tie.TheVariants.{Even, Away}
 use Rattle.integers.specs.Rounding.{with_sign_of, on_tie, nearest, rounded, distance, Chosen, Nearest, Characterised}
-use Rattle.integers.proofs.Order.{size, apart, abs_sub}
+use Rattle.integers.proofs.Sizes.{size, apart, abs_sub}
 use Rattle.integers.proofs.Machine.{abs_quot, abs_rem}
 use Rattle.integers.proofs.Ring.{ring, ◌⊖◌, ◌⊗◌}
 

@@ -6,7 +6,7 @@ use Prim.Native.Nat.{ℕ, ◌<◌, ◌≤◌}
 use native.Mathlib.Omega.{arith}
 use lib.IntN.{pos, nat_abs}
 use lib.ListN.{replicate, get_or-replicate}
-use Rattle.integers.proofs.Order.{abs_add}
+use Rattle.integers.proofs.Sizes.{abs_add}
 use Rattle.day.specs.Day.{no_trades}
 use Rattle.figures.specs.Figures.{is_size}
 use Rattle.outcomes.specs.Effects.{closed_figures}

@@ -10,7 +10,7 @@ use lib.IntN.{pos, neg_ℤ, nat_abs, ◌+ℤ◌}
 use lib.ListN.{length-set}
 use borrow.Author.Tests.{not-false}
 use Rattle.integers.specs.Size.{within}
-use Rattle.integers.proofs.Order.{abs_neg}
+use Rattle.integers.proofs.Sizes.{abs_neg}
 use Rattle.std.proofs.lemmas.Bool.{cond_both}
 use Rattle.integers.proofs.Tests.{tests, each}
 use Rattle.prices.specs.Price.{largest_price}

@@ -10,7 +10,7 @@ use columns::{ACCOUNTS, Account, Columns};
 use figures::Fixing;
 use text::Window;
 
-// `number` is the refusal's, as it is printed.
+// `number` is the refusal's: the definitions of the printout know refusals by number alone.
 pub fn put_refused(window: &mut Window, number: u8, place: u64)
     ensures { Puts window.old (refused_line number place) window.new }
 {

@@ -14,7 +14,7 @@ use borrow.Author.Differences.{ints}
 use borrow.Author.Tests.{eqb-false, not-true}
 use Rattle.integers.specs.declared.Tie.{Tie}
 use Rattle.integers.specs.declared.Tie.TheVariants.{Even}
-use Rattle.integers.proofs.Order.{size, apart, abs_neg}
+use Rattle.integers.proofs.Sizes.{size, apart, abs_neg}
 use Rattle.integers.proofs.Rounding.{rounded_le, nearest_le, nearest_ge}
 use Rattle.std.proofs.lemmas.Bool.{and_parts, cond_both}
 use Rattle.std.proofs.lemmas.Int.{unsigned_abs-mul}

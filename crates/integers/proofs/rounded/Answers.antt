@@ -15,7 +15,7 @@ use borrow.Author.Differences.{fits_out, lt_out}
 use borrow.Author.Tests.{ltb-true, eqb-true}
 use Rattle.std.proofs.lemmas.Int.{quot_is, rem_is, quot_fits, rem_below}
 use Rattle.integers.specs.Rounding.{with_sign_of, on_tie}
-use Rattle.integers.proofs.Order.{size, apart}
+use Rattle.integers.proofs.Sizes.{size, apart}
 use Rattle.integers.proofs.Machine.{bits_pos, quot_rem_size}
 use Rattle.integers.proofs.Rounding.{stays, goes_on}
 use Rattle.integers.proofs.rounded.Goals as goal

@@ -9,7 +9,7 @@ use mir.Syntax.{w32}
 use mir.Val.{Fits}
 use borrow.Author.Differences.{sum_is_lem, neg_is}
 use borrow.Author.Rules.{rules}
-use Rattle.integers.proofs.Order.{size, apart, not_above, not_below}
+use Rattle.integers.proofs.Sizes.{size, apart, not_above, not_below}
 use Rattle.integers.proofs.Overflow.{arg, add, sub, val, Within, ◌▹◌, done, runs}
 use Rattle.std.proofs.lemmas.Bool.{cond_both}
 use Rattle.columns.specs.Columns.{entry}
