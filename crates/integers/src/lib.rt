@@ -1,7 +1,7 @@
 // Division rounded to the nearest whole number. proofs/ is a library of laws of the integers that the other crates cite.
 #![tactic(auto)]
 
-ghost use Rattle.std.specs.Prelude.{◌≡◌, cond, ◌+◌, ◌<◌, ◌^◌, pos, nat_abs, ◌+ℤ◌, ◌<ℤ◌};
+ghost use Rattle.std.specs.Prelude.{◌≡◌, true, cond, ◌+◌, ◌<◌, ◌^◌, pos, nat_abs, ◌+ℤ◌, ◌<ℤ◌};
 ghost use Rattle.integers.specs.Rounding.{with_sign_of, on_tie, rounded, half_even};
 ghost use Rattle.integers.specs.Size.{within};
 
@@ -21,12 +21,14 @@ pub fn is_within(x: i64, limit: u64) -> bool
     x.unsigned_abs() <= limit
 }
 
-// The whole number after q on the side of x, farther from zero. There has to be one: q is not the largest or the least.
-fn farther(q: i64, x: i64) -> i64
-    requires { nat_abs q + 1 < 2 ^ 63 }
-    ensures { result ≡ q +ℤ with_sign_of x 1 }
+// The whole number after q on the side of x, farther from zero, where the quotient goes on to it, else q. There has to be one where
+// it does: q is then not the largest or the least. A step of 0 or 1 is added in any case, so that the machine has nothing to foretell.
+fn farther(q: i64, x: i64, goes_on: bool) -> i64
+    requires { goes_on ≡ true → nat_abs q + 1 < 2 ^ 63 }
+    ensures { result ≡ q +ℤ with_sign_of x (cond goes_on 1 0) }
 {
-    if x < 0 { q - 1 } else { q + 1 }
+    let step = i64::from(goes_on);
+    if x < 0 { q - step } else { q + step }
 }
 
 // Whether a tie goes on from the quotient q to the whole number after it.
@@ -51,7 +53,7 @@ pub fn rounded(x: i64, d: i64, tie: Tie) -> i64
     let size = r.unsigned_abs();
     let left = d.unsigned_abs() - size;
     let goes_on = (left < size) | ((left == size) & tie_goes_on(q, tie));
-    if goes_on { farther(q, x) } else { q }
+    farther(q, x, goes_on)
 }
 
 // x / d rounded to the nearest whole number, a tie to the even one. The divisor is positive, as above.

@@ -6,7 +6,7 @@ use Prim.Native.Nat.{ℕ, ◌+◌, ◌-◌, ◌*◌, ◌<◌, ◌≤◌, ◌^◌
 use native.Mathlib.Nat.{mul-le-mul_right}
 use native.Mathlib.Omega.{arith}
 use lib.Dec.{ltb, eqb}
-use lib.IntN.{ℤ, nat_abs, ◌+ℤ◌}
+use lib.IntN.{ℤ, pos, negsuc, nat_abs, ◌+ℤ◌, +ℤ_idr}
 use lib.Signed.{rem_z, quot_z}
 use mir.Syntax.{w64}
 use mir.Val.{SFits, to_z, of_z}
@@ -14,12 +14,12 @@ use mir.Facts.{to_z-of_z}
 use borrow.Author.Differences.{fits_out, lt_out}
 use borrow.Author.Tests.{ltb-true, eqb-true}
 use Rattle.std.proofs.lemmas.Int.{quot_is, rem_is, quot_fits, rem_below}
-use Rattle.integers.specs.Rounding.{with_sign_of, on_tie}
+use Rattle.integers.specs.Rounding.{with_sign_of, on_tie, rounded}
 use Rattle.integers.proofs.Sizes.{size, apart}
 use Rattle.integers.proofs.Machine.{bits_pos, quot_rem_size}
 use Rattle.integers.proofs.Rounding.{stays, goes_on}
 use Rattle.integers.proofs.rounded.Goals as goal
-use Rattle.integers.proofs.rounded.Goals.{After-unsigned_abs-size, After-unsigned_abs, After-tie_goes_on, Start, Then-goes_on}
+use Rattle.integers.proofs.rounded.Goals.{After-unsigned_abs-size, After-unsigned_abs, After-tie_goes_on, Start}
 
 module _ (s : Start) where
   x_back : to_z w64 (of_z w64 s.args.x) ≡ s.args.x
@@ -59,9 +59,13 @@ size_below c = rw (size_is c) (rem_below c.args.x c.args.d (d_size c.before))
 divisor_is : (c : After-unsigned_abs) → c.unsigned_abs.result ≡ nat_abs c.args.d
 divisor_is c = c.unsigned_abs.ensures.value ∙ ap nat_abs (d_back c.before.before)
 
--- what `farther` gives, after any of its two calls
-farther_is : (s : Start) {q x r : ℤ} → SFits w64 r → q ≡ quot_z s.args.x s.args.d → x ≡ s.args.x → r ≡ q +ℤ with_sign_of x 1 → to_z w64 (of_z w64 r) ≡ quot_z s.args.x s.args.d +ℤ with_sign_of s.args.x 1
-farther_is s f e g h = to_z-of_z f ∙ h ∙ ap₂ (λ q x. q +ℤ with_sign_of x 1) e g
+-- what `farther` gives
+farther_is : (s : Start) {q x r : ℤ} (step : ℕ) → SFits w64 r → q ≡ quot_z s.args.x s.args.d → x ≡ s.args.x → r ≡ q +ℤ with_sign_of x step → to_z w64 (of_z w64 r) ≡ quot_z s.args.x s.args.d +ℤ with_sign_of s.args.x step
+farther_is s step f e g h = to_z-of_z f ∙ h ∙ ap₂ (λ q x. q +ℤ with_sign_of x step) e g
+
+no_step : (q x : ℤ) → q +ℤ with_sign_of x 0 ≡ q
+no_step q (pos a) = +ℤ_idr q
+no_step q (negsuc a) = +ℤ_idr q
 
 pub nonzero_div-q : goal.nonzero_div-q
 nonzero_div-q c = rw (x_back c, d_back c) (bits_pos w64 c.requires, q_fits c)
@@ -98,9 +102,6 @@ module _ (c : After-tie_goes_on) where
   test_is : goes c.unsigned_abs.result c.unsigned_abs-size.result ≡ goes (nat_abs start.args.d) rest
   test_is = ap₂ goes (divisor_is c.before) (size_is c.before.before)
 
-goes_is : (c : Then-goes_on) → let a = c.before in goes a (nat_abs (start a).args.d) (rest a) ≡ true
-goes_is c = sym (test_is c.before) ∙ c.if-goes_on.true
-
 reached : (l r d : ℕ) (g : Bool) → ltb l r || (eqb l r && g) ≡ true → l + r ≡ d → d ≤ 2 * r
 reached l r d g h e = go (ltb l r) (eqb l r) refl refl h
   where
@@ -109,24 +110,24 @@ reached l r d g h e = go (ltb l r) (eqb l r) refl refl h
     go false true p q h = omega (arith, eqb-true l r q, e)
     go false false p q h = absurd (true≢false (sym h))
 
+-- by whether the quotient goes on
+ends : (a : After-tie_goes_on) (g : Bool) → let s = start a in goes a (nat_abs s.args.d) (rest a) ≡ g → quot_z s.args.x s.args.d +ℤ with_sign_of s.args.x (cond g 1 0) ≡ rounded s.args.tie s.args.x (nat_abs s.args.d)
+ends a true e =
+    let s = start a in
+    goes_on s.args.x s.args.d s.requires s.args.tie (left a) a.tie_goes_on.result (left_is a) (tie_is a) e
+ends a false e =
+    let s = start a in
+    no_step (quot_z s.args.x s.args.d) s.args.x ∙ stays s.args.x s.args.d s.requires s.args.tie (left a) a.tie_goes_on.result (left_is a) (tie_is a) e
+
 pub farther-requires : goal.farther-requires
-farther-requires c =
+farther-requires a =
+    let s = start a in
+    rw (q_is s) (λ e. q_small s (reached (left a) (rest a) _ a.tie_goes_on.result (sym (test_is a) ∙ e) (left_is a)))
+
+pub returns : goal.returns
+returns c =
     let a = c.before in
     let s = start a in
-    rw (q_is s) (q_small s (reached (left a) (rest a) _ a.tie_goes_on.result (goes_is c) (left_is a)))
-
-pub returns-then-goes_on : goal.returns-then-goes_on
-returns-then-goes_on c =
-    let t = c.before in
-    let a = t.before in
-    let s = start a in
-    farther_is s (record { sfits = c.farther.type_inv }) (q_is s) (x_back s) c.farther.ensures
-    ∙ goes_on s.args.x s.args.d s.requires s.args.tie (left a) a.tie_goes_on.result (left_is a) (tie_is a) (goes_is t)
-
-pub returns-else-goes_on : goal.returns-else-goes_on
-returns-else-goes_on c =
-    let a = c.before in
-    let s = start a in
-    q_is s
-    ∙ stays s.args.x s.args.d s.requires s.args.tie (left a) a.tie_goes_on.result (left_is a) (tie_is a)
-    (sym (test_is a) ∙ c.if-goes_on.false)
+    farther_is s (cond (goes a a.unsigned_abs.result a.unsigned_abs-size.result) 1 0) (record { sfits = c.farther.type_inv }) (q_is s) (x_back s) c.farther.ensures
+    ∙ ap (λ g. quot_z s.args.x s.args.d +ℤ with_sign_of s.args.x (cond g 1 0)) (test_is a)
+    ∙ ends a _ refl
