@@ -103,6 +103,7 @@ impl Columns {
     }
 
     // The contracts that all accounts bought plus sold today.
+    // No `sum()`: tried, and the search for what it requires didn't end, so the proof didn't close.
     pub fn total_volume(&self) -> u64
         ensures { result ≡ sum_below accounts (count_at self.now.volume) }
     {

@@ -89,9 +89,7 @@ impl Trades {
     {
         let gross = self.settling.gross;
         let n = u64::from(self.settling.contracts);
-        (2 * n <= v)
-            & (u64::from(LEAST_PRICE) * n <= gross)
-            & (gross <= u64::from(LARGEST_PRICE) * n)
+        (2 * n <= v) & (u64::from(LEAST_PRICE) * n..=u64::from(LARGEST_PRICE) * n).contains(&gross)
     }
 }
 

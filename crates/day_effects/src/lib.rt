@@ -1,8 +1,7 @@
 // What quotes, halts, trades, minute ends and a fix leave of a day.
 #![tactic(auto)]
 
-ghost use Rattle.std.specs.Prelude.{◌≡◌, cond, ◌+◌, ◌≤◌};
-ghost use Rattle.funding.specs.Minute.{most_minutes};
+ghost use Rattle.std.specs.Prelude.{◌≡◌, cond};
 ghost use Rattle.day.specs.Day.{no_markets};
 ghost use Rattle.day_effects.specs.Effects.{with_markets, with_minutes, with_trades, with_fixed, weighted_after, minute_ended, next_minute};
 ghost use Rattle.day_effects.specs.Effects.{quoted as Effects·quoted};
@@ -66,7 +65,8 @@ pub fn traded(day: Day, t: Trade) -> Day
     after
 }
 
-// Here and below the index of a minute stands beside whether it is valid, and in no Option: it may be the day's index either way.
+// Here and below the index of a minute stands beside whether the minute is valid: it may be the day's index either way, so that a
+// minute end has both, and an Option would be made for one function alone.
 // The weighted sum after a minute, valid or not.
 fn weighted_after(day: Day, valid: bool, index: u32) -> i64
     requires { Endable day valid index }
@@ -79,13 +79,6 @@ fn weighted_after(day: Day, valid: bool, index: u32) -> i64
     } else {
         day.minutes.weighted
     }
-}
-
-fn valid_after(count: u32, valid: bool) -> u32
-    requires { count ≤ most_minutes }
-    ensures { result ≡ cond valid (count + 1) count }
-{
-    if valid { count + 1 } else { count }
 }
 
 // The day's index after a minute, the last one or not.
@@ -103,17 +96,16 @@ pub fn minute_ended(mut day: Day, valid: bool, index: u32) -> Day
     let mut minutes = day.minutes;
     minutes.index = index_after(day.minutes.index, day.is_in_last_minute(), index);
     minutes.weighted = weighted_after(day, valid, index);
-    minutes.valid = valid_after(day.minutes.valid, valid);
+    minutes.valid = day.minutes.valid + u32::from(valid);
     minutes.ended = day.minutes.ended + 1;
     day.markets = markets;
     day.minutes = minutes;
     day
 }
 
-pub fn fixed(mut day: Day, price: u32, amount: i64) -> Day
-    ensures { result ≡ with_fixed day (record { price = price; amount = amount }) }
+pub fn fixed(mut day: Day, fixed: Fixed) -> Day
+    ensures { result ≡ with_fixed day fixed }
 {
-    let fixed = Fixed { price, amount };
     day.fixed = fixed;
     day
 }

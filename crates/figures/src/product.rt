@@ -24,7 +24,7 @@ impl Product {
     // The spread limit, in units of 0.0001.
     pub const SPREAD: u16 = 50;
 
-    // The contract of a hundredth of a coin. Document 01 names a constructor for each product.
+    // The contract of a hundredth of a coin. Document 01 asks for constructors of a product type, here one for each product.
     pub fn hundredth() -> Self
         ensures { result.size ≡ hundredth }
     {

@@ -33,7 +33,8 @@ pub fn basis(futures: u32, index: u32) -> i64
     integers::half_even((i64::from(futures) - u) * NANO, u)
 }
 
-// The weighted sum with one more valid minute after the first `count`. A 64-bit number holds the sum of a whole day, and no
+// The weighted sum with one more valid minute after the first `count`. Sum and count are two numbers here and in settlement: `Minutes`
+// of crate day holds them, with the other two that a minute end sets. A 64-bit number holds the sum of a whole day, and no
 // more, so the day's limits are required.
 pub fn accrue(sum: i64, count: u32, basis: i64) -> i64
     requires { Accrues sum count basis }

@@ -38,19 +38,16 @@ impl Market {
     pub fn is_within_spread(self, terms: Terms) -> bool
         ensures { result ≡ within_spread terms self.bid self.offer }
     {
-        if self.offer <= self.bid {
-            return true;
-        }
-        let b = u64::from(self.bid);
-        let a = u64::from(self.offer);
-        20_000 * (a - b) <= u64::from(terms.spread) * (a + b)
+        let spread = u64::from(self.offer.saturating_sub(self.bid));
+        let sum = u64::from(self.bid) + u64::from(self.offer);
+        20_000 * spread <= u64::from(terms.spread) * sum
     }
 
     // The futures price F of a minute that ends with this market, after this last trade. It is 0 for none, as a side is.
     pub fn futures_price(self, last: u32) -> u32
         ensures { result ≡ futures_price self.bid self.offer last }
     {
-        if (last != 0) & (self.bid <= last) & (last <= self.offer) {
+        if (last != 0) & (self.bid..=self.offer).contains(&last) {
             last
         } else {
             self.bid.midpoint(self.offer)

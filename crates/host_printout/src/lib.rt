@@ -6,7 +6,8 @@ ghost use Rattle.std.specs.Prelude.{◌≡◌, length, drop};
 ghost use Rattle.text.specs.Text.{over};
 ghost use Rattle.printout.specs.Printout.{printout};
 
-// As `printout::write`, whose contract it has. A buffer in C is a pointer and a length (include/funding.h).
+// As `printout::write`, whose contract it has: a crate for C is a static library, on which funding-bench couldn't stand. A buffer in C
+// is a pointer and a length (include/funding.h).
 #[unsafe(no_mangle)]
 pub extern "C" fn funding_printout(input: &[u8], from: usize, out: &mut [u8]) -> usize
     ensures length { result ≡ length (printout input.now) }

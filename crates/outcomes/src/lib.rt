@@ -10,8 +10,8 @@ ghost use Rattle.outcomes.specs.Effects.{with_begun_day, figures_after};
 ghost use Rattle.outcomes.specs.Outcome.{outcome};
 
 use calls::{Call, Trade};
-use day::Day;
-use figures::{Figures, Outcome};
+use day::{Day, Fixed};
+use figures::{Figures, Fixing, Outcome};
 use funding::market::Market;
 use settlement::Previous;
 
@@ -89,7 +89,8 @@ pub fn fix(figures: &mut Figures, set: u32) -> Outcome
     let day = figures.day;
     let fixing = figures.fixing(set);
     refusals::fix(figures.closed, day.forbids_fix(), set, fixing.price)?;
-    figures.day = day_effects::fixed(day, fixing.price, fixing.amount);
+    let Fixing { price, amount, .. } = fixing;
+    figures.day = day_effects::fixed(day, Fixed { price, amount });
     Ok(Some(fixing))
 }
 

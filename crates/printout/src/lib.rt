@@ -34,7 +34,7 @@ fn put_records(window: &mut Window, book: &mut CheckedBook, file: &[u8])
     requires { length file.now ≤ most_input }
     ensures { Puts window.old (after_records book.old.book 1 (records_of file.now)).text window.new }
 {
-    // No iterator of records: it would keep the place of the next one just as this loop does, and `place` beside it.
+    // No iterator of records: it would keep the place of the next one just as this loop does.
     let mut start: usize = 0;
     let mut place: u64 = 1;
     while let Some(read) = read_record(file, start) {

@@ -10,6 +10,7 @@ ghost use Rattle.settlement.specs.Fixing.{rate_of, clamped_to, amount_of, index_
 
 use funding::Terms;
 use integers::Tie;
+use prices::is_price;
 
 // A rate in nano times a size in hundredths of a coin, as a number.
 const AMOUNT_SCALE: i64 = 100_000_000_000;
@@ -64,13 +65,9 @@ fn index_price(index: u32, previous: Previous) -> u32
 {
     let given = (index != 0) & (previous.price != 0) & (previous.index != 0);
     let sum = u64::from(index) + u64::from(previous.price);
-    let subtracted = u64::from(previous.index);
-    let is_price = (u64::from(prices::LEAST_PRICE) + subtracted <= sum)
-        & (sum <= u64::from(prices::LARGEST_PRICE) + subtracted);
-    if given & is_price {
-        (sum - subtracted) as u32
-    } else {
-        0
+    match u32::try_from(sum.saturating_sub(u64::from(previous.index))) {
+        Ok(price) if given & is_price(price) => price,
+        _ => 0,
     }
 }
 

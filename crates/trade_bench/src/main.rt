@@ -26,9 +26,7 @@ fn play(mut book: Book) -> u64 {
     let mut accepted = 0;
     for place in 0..TRADES {
         let answer = book.trade(trade_at(place));
-        if answer.outcome.is_ok() {
-            accepted += 1;
-        }
+        accepted += u64::from(answer.outcome.is_ok());
         book = answer.book;
     }
     accepted
