@@ -7,7 +7,7 @@ mod sample;
 mod weighted;
 
 use rows::{Amount, Basis, Clamp, Spread, WeightedMinute};
-use sample::Sample;
+use sample::{Priced, Sample};
 use std::fmt::Display;
 use std::io;
 use weighted::Weighted;
@@ -40,23 +40,22 @@ fn bases(rt: &impl Print) -> io::Result<()> {
 }
 
 // The five minutes of the sample weights; the examples differ in the third one.
-fn samples(third: Sample) -> [Sample; 5] {
+fn samples(third: Priced) -> [Priced; 5] {
     [
-        Sample::new(8_391_030, 8_391_040, 8_391_500, 8_391_603),
-        Sample::new(8_396_580, 8_396_590, 8_396_580, 8_398_313),
+        Priced::new(8_391_030, 8_391_040, 8_391_500, 8_391_603),
+        Priced::new(8_396_580, 8_396_590, 8_396_580, 8_398_313),
         third,
-        Sample::new(8_399_450, 8_399_460, 8_399_460, 8_399_921),
-        Sample::new(8_400_790, 8_400_800, 8_400_790, 8_404_832),
+        Priced::new(8_399_450, 8_399_460, 8_399_460, 8_399_921),
+        Priced::new(8_400_790, 8_400_800, 8_400_790, 8_404_832),
     ]
 }
 
 // Each minute with its weight and basis, then the rate.
-fn weights(rt: &impl Print, third: Sample) -> io::Result<()> {
+fn weights(rt: &impl Print, third: Priced) -> io::Result<()> {
     let mut day = Weighted::none();
-    for sample in samples(third) {
-        day = day.with_minute(sample);
-        let weight = day.count;
-        println!(rt; "{}", WeightedMinute { sample, weight })?;
+    for minute in samples(third) {
+        day = day.with_minute(minute);
+        println!(rt; "{}", WeightedMinute::new(minute.sample, day.count))?;
     }
     println!(rt; "{day}")
 }
@@ -85,8 +84,8 @@ fn amounts(rt: &impl Print) -> io::Result<()> {
 fn main(rt: HostRuntime) -> io::Result<()> {
     spreads(&rt)?;
     bases(&rt)?;
-    let narrow = Sample::new(8_398_600, 8_398_610, 8_400_000, 8_399_016);
-    let wide = Sample::new(8_356_610, 8_398_610, 8_400_000, 8_399_016);
+    let narrow = Priced::new(8_398_600, 8_398_610, 8_400_000, 8_399_016);
+    let wide = Priced::new(8_356_610, 8_398_610, 8_400_000, 8_399_016);
     weights(&rt, narrow)?;
     weights(&rt, wide)?;
     clamps(&rt)?;

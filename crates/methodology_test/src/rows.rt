@@ -14,12 +14,13 @@ use std::fmt::{Display, Formatter};
 pub struct Spread {
     sample: Sample,
     places: u32,
+    ghost bid_present: { 0 < sample.market.bid },
     ghost few_places: { places ≤ 7 },
 }
 
 impl Spread {
     pub fn new(sample: Sample, places: u32) -> Self
-        requires { places ≤ 7 }
+        requires { (0 < sample.market.bid) × (places ≤ 7) }
         ensures { (result.sample ≡ sample) × (result.places ≡ places) }
     {
         Spread { sample, places }
@@ -68,8 +69,18 @@ impl Display for Basis {
 // A minute with the weight that it has where it is valid.
 #[derive(Clone, Copy)]
 pub struct WeightedMinute {
-    pub sample: Sample,
-    pub weight: u32,
+    sample: Sample,
+    weight: u32,
+    ghost index_present: { 0 < sample.index },
+}
+
+impl WeightedMinute {
+    pub fn new(sample: Sample, weight: u32) -> Self
+        requires { 0 < sample.index }
+        ensures { (result.sample ≡ sample) × (result.weight ≡ weight) }
+    {
+        WeightedMinute { sample, weight }
+    }
 }
 
 // The minute; its weight and basis, both 0 where it is not valid.

@@ -1,5 +1,6 @@
 // A minute of the examples.
-ghost use Rattle.std.specs.Prelude.{◌≡◌, true, ◌≤◌, ◌↔◌, IsTrue, IsSome, IfSome};
+ghost use Rattle.std.specs.Prelude.{◌≡◌, true, ◌≤◌, ◌<◌, ◌+◌, ◌↔◌, pos, ◌-ℤ◌, ◌*ℤ◌, IsTrue, IsSome, IfSome};
+ghost use Rattle.integers.specs.Rounding.{half_even};
 ghost use Rattle.prices.specs.Price.{is_price};
 ghost use Rattle.funding.specs.Terms.{standard_terms};
 ghost use Rattle.funding.specs.Minute.{within_spread, futures_price};
@@ -9,24 +10,18 @@ use funding::market::Market;
 use std::fmt;
 use std::fmt::{Display, Formatter};
 
-// The market of a minute with both its sides, the day's last trade and the index.
+// The market of a minute, the day's last trade and the index.
 #[derive(Clone, Copy)]
 pub struct Sample {
     pub market: Market,
     pub last: u32,
     pub index: u32,
-    ghost bid_is_price: { is_price market.bid ≡ true },
-    ghost offer_is_price: { is_price market.offer ≡ true },
-    ghost last_is_price: { is_price last ≡ true },
-    ghost index_is_price: { is_price index ≡ true },
 }
 
 impl Sample {
     // Four numbers, as a row of the table has them.
     pub fn new(bid: u32, offer: u32, last: u32, index: u32) -> Self
-        requires { (is_price bid ≡ true) × (is_price offer ≡ true) × (is_price last ≡ true) × (is_price index ≡ true) }
-        ensures market { (result.market.bid ≡ bid) × (result.market.offer ≡ offer) }
-        ensures rest { (result.last ≡ last) × (result.index ≡ index) }
+        ensures { result ≡ record { market = record { bid = bid; offer = offer }; last = last; index = index } }
     {
         let market = Market { bid, offer };
         Sample {
@@ -40,7 +35,6 @@ impl Sample {
     pub fn futures_price(self) -> Option<u32>
         ensures valid { IsSome result ↔ IsTrue (within_spread standard_terms self.market.bid self.market.offer) }
         ensures value { IfSome result (λ price. price ≡ futures_price self.market.bid self.market.offer self.last) }
-        ensures is_price { IfSome result (λ price. is_price price ≡ true) }
     {
         if self.market.is_within_spread(Product::terms()) {
             Some(self.market.futures_price(self.last))
@@ -51,7 +45,8 @@ impl Sample {
 
     // The spread over the midpoint, in units of 1 / scale.
     pub fn normalized_spread(self, scale: u32) -> i64
-        requires { scale ≤ 10000000 }
+        requires { (0 < self.market.bid) × (scale ≤ 10000000) }
+        ensures { result ≡ half_even ((pos self.market.offer -ℤ pos self.market.bid) *ℤ pos 2 *ℤ pos scale) (self.market.bid + self.market.offer) }
     {
         let bid = i64::from(self.market.bid);
         let offer = i64::from(self.market.offer);
@@ -64,5 +59,26 @@ impl Display for Sample {
     fn fmt<W: fmt::Write>(&self, f: &mut Formatter<W>) -> fmt::Result {
         let Market { bid, offer } = self.market;
         write!(f, "{bid} {offer} {} {}", self.last, self.index)
+    }
+}
+
+// A minute all of whose numbers are prices, so that it can be weighed.
+#[derive(Clone, Copy)]
+pub struct Priced {
+    pub sample: Sample,
+    ghost bid_is_price: { is_price sample.market.bid ≡ true },
+    ghost offer_is_price: { is_price sample.market.offer ≡ true },
+    ghost last_is_price: { is_price sample.last ≡ true },
+    ghost index_is_price: { is_price sample.index ≡ true },
+}
+
+impl Priced {
+    pub fn new(bid: u32, offer: u32, last: u32, index: u32) -> Self
+        requires { (is_price bid ≡ true) × (is_price offer ≡ true) × (is_price last ≡ true) × (is_price index ≡ true) }
+        ensures { result.sample ≡ record { market = record { bid = bid; offer = offer }; last = last; index = index } }
+    {
+        Priced {
+            sample: Sample::new(bid, offer, last, index),
+        }
     }
 }

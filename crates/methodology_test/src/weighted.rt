@@ -1,9 +1,9 @@
 // The weighted sum of an example's valid minutes.
-ghost use Rattle.std.specs.Prelude.{◌≡◌, ◌+◌, ◌<◌, ◌≤◌, nat_abs, IsTrue};
+ghost use Rattle.std.specs.Prelude.{◌≡◌, ◌+◌, ◌<◌, ◌≤◌, pos, nat_abs, IsTrue};
 ghost use Rattle.funding.specs.Terms.{standard_terms};
 ghost use Rattle.funding.specs.Minute.{weighted_limit, within_spread, futures_price, Accrues, accrued, basis_of};
 
-use crate::sample::Sample;
+use crate::sample::Priced;
 use std::fmt;
 use std::fmt::{Display, Formatter};
 
@@ -17,7 +17,7 @@ pub struct Weighted {
 
 impl Weighted {
     pub fn none() -> Self
-        ensures { result.count ≡ 0 }
+        ensures { (result.count ≡ 0) × (result.sum ≡ pos 0) }
     {
         Weighted { count: 0, sum: 0 }
     }
@@ -34,14 +34,15 @@ impl Weighted {
     }
 
     // With a minute, where it is valid.
-    pub fn with_minute(self, sample: Sample) -> Self
+    pub fn with_minute(self, minute: Priced) -> Self
         requires { self.count < 10 }
         ensures count { result.count ≤ self.count + 1 }
-        ensures valid { let market = sample.market in IsTrue (within_spread standard_terms market.bid market.offer)
-            → result.sum ≡ accrued self.sum self.count (basis_of (futures_price market.bid market.offer sample.last) sample.index) }
-        ensures invalid { let market = sample.market in ¬ IsTrue (within_spread standard_terms market.bid market.offer)
+        ensures valid { let s = minute.sample in IsTrue (within_spread standard_terms s.market.bid s.market.offer)
+            → result.sum ≡ accrued self.sum self.count (basis_of (futures_price s.market.bid s.market.offer s.last) s.index) }
+        ensures invalid { let s = minute.sample in ¬ IsTrue (within_spread standard_terms s.market.bid s.market.offer)
             → result ≡ self }
     {
+        let sample = minute.sample;
         match sample.futures_price() {
             Some(futures) => self.weigh(funding::basis(futures, sample.index)),
             None => self,

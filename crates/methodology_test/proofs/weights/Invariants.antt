@@ -2,5 +2,5 @@
 use Rattle.std.proofs.Common.{◌≤◌}
 use Rattle.methodology_test.proofs.weights.Given as goal
 
-abbrev pub invariant-loop-sample : goal.invariant-loop-sample
-invariant-loop-sample g l = l.day.count ≤ l.sample-index
+abbrev pub invariant-loop-minute : goal.invariant-loop-minute
+invariant-loop-minute g l = l.day.count ≤ l.minute-index

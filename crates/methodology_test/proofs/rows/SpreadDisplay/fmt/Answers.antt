@@ -5,4 +5,5 @@ use Rattle.methodology_test.proofs.rows.SpreadDisplay.fmt.Goals as goal
 
 pub normalized_spread-spread-requires : goal.normalized_spread-spread-requires
 normalized_spread-spread-requires g c =
-    rw c.pow.ensures (pow-le-pow_right (omega arith) c.args.self.now.few_places)
+    let row = c.args.self.now in
+    rw c.pow.ensures (row.bid_present, pow-le-pow_right (omega arith) row.few_places)

@@ -1,12 +1,26 @@
--- `methodology_test::sample::Sample::normalized_spread` is safe: two prices and a scale of seven places stay below 2 ^ 63. Assumes nothing.
-use Rattle.std.proofs.Common.{[], ◌∷◌, ◌≤◌, pos, arith}
-use Rattle.integers.proofs.Overflow.{arg, lit, sub, mul, val, Within, ◌▹◌, done, safe}
+-- `methodology_test::sample::Sample::normalized_spread` meets its contract: two prices and a scale of seven places stay below 2 ^ 63.
+-- Assumes nothing.
+use Rattle.std.proofs.Common.{[], ◌∷◌, ℕ, ◌≤◌, pos, ◌∙◌, w32, w64, Fits, to_z-of_z, arith, rules}
+use Rattle.integers.proofs.Overflow.{Op, arg, lit, add, sub, mul, val, Within, ◌▹◌, done, safe, runs}
 use Rattle.methodology_test.proofs.sample.Sample.normalized_spread.Goals as goal
+
+within : (bid offer scale : ℕ) → Fits w32 bid → Fits w32 offer → scale ≤ 10_000_000 → Within (val (pos offer) ∷ val (pos bid) ∷ val (pos scale) ∷ []) (4_294_967_295 ∷ 4_294_967_295 ∷ 10_000_000 ∷ [])
+within bid offer scale b a most =
+    let bid_most : bid ≤ 4_294_967_295 = omega (arith, b.fits) in
+    let offer_most : offer ≤ 4_294_967_295 = omega (arith, a.fits) in
+    offer_most ▹ bid_most ▹ most ▹ done
+
+abbrev scaled : Op
+scaled = mul (mul (sub (arg 0) (arg 1)) (lit (pos 2))) (arg 2)
 
 pub overflow_mul-offer-2 : goal.overflow_mul-offer-2
 overflow_mul-offer-2 c =
     let market = c.args.self.market in
-    let offer : market.offer ≤ 4_294_967_295 = omega arith in
-    let bid : market.bid ≤ 4_294_967_295 = omega arith in
-    let within : Within (val (pos market.offer) ∷ val (pos market.bid) ∷ val (pos c.args.scale) ∷ []) (4_294_967_295 ∷ 4_294_967_295 ∷ 10_000_000 ∷ []) = offer ▹ bid ▹ c.requires ▹ done in
-    rw (c.from-offer.ensures, c.from-bid.ensures, c.from.ensures) (safe within (mul (mul (sub (arg 0) (arg 1)) (lit (pos 2))) (arg 2)) tt)
+    rw (c.from-offer.ensures, c.from-bid.ensures, c.from.ensures) (safe (within market.bid market.offer c.args.scale (search rules) (search rules) c.requires.1) scaled tt)
+
+pub returns : goal.returns
+returns c =
+    let market = c.args.self.market in
+    let fits = within market.bid market.offer c.args.scale (search rules) (search rules) c.requires.1 in
+    to_z-of_z {w = w64} (record { sfits = c.half_even.type_inv })
+    ∙ (rw (c.from-offer.ensures, c.from-bid.ensures, c.from.ensures, runs fits scaled tt, runs fits (add (arg 1) (arg 0)) tt) at c.half_even.ensures)
