@@ -34,6 +34,7 @@ impl Weighted {
     }
 
     // With a minute, where it is valid.
+    #[tactic(auto, using(crate::proofs::Accruing::accrues, crate::proofs::Accruing::accrues_valid))]
     pub fn with_minute(self, minute: Priced) -> Self
         requires { self.count < 10 }
         ensures count { result.count ≤ self.count + 1 }
