@@ -42,11 +42,11 @@ fn bases(rt: &impl Print) -> io::Result<()> {
 // The five minutes of the sample weights; the examples differ in the third one.
 fn samples(third: Priced) -> [Priced; 5] {
     [
-        Priced::new(8_391_030, 8_391_040, 8_391_500, 8_391_603),
-        Priced::new(8_396_580, 8_396_590, 8_396_580, 8_398_313),
+        Priced::new(Sample::new(8_391_030, 8_391_040, 8_391_500, 8_391_603)),
+        Priced::new(Sample::new(8_396_580, 8_396_590, 8_396_580, 8_398_313)),
         third,
-        Priced::new(8_399_450, 8_399_460, 8_399_460, 8_399_921),
-        Priced::new(8_400_790, 8_400_800, 8_400_790, 8_404_832),
+        Priced::new(Sample::new(8_399_450, 8_399_460, 8_399_460, 8_399_921)),
+        Priced::new(Sample::new(8_400_790, 8_400_800, 8_400_790, 8_404_832)),
     ]
 }
 
@@ -84,8 +84,8 @@ fn amounts(rt: &impl Print) -> io::Result<()> {
 fn main(rt: HostRuntime) -> io::Result<()> {
     spreads(&rt)?;
     bases(&rt)?;
-    let narrow = Priced::new(8_398_600, 8_398_610, 8_400_000, 8_399_016);
-    let wide = Priced::new(8_356_610, 8_398_610, 8_400_000, 8_399_016);
+    let narrow = Priced::new(Sample::new(8_398_600, 8_398_610, 8_400_000, 8_399_016));
+    let wide = Priced::new(Sample::new(8_356_610, 8_398_610, 8_400_000, 8_399_016));
     weights(&rt, narrow)?;
     weights(&rt, wide)?;
     clamps(&rt)?;

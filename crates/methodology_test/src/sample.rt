@@ -73,12 +73,10 @@ pub struct Priced {
 }
 
 impl Priced {
-    pub fn new(bid: u32, offer: u32, last: u32, index: u32) -> Self
-        requires { (is_price bid ≡ true) × (is_price offer ≡ true) × (is_price last ≡ true) × (is_price index ≡ true) }
-        ensures { result.sample ≡ record { market = record { bid = bid; offer = offer }; last = last; index = index } }
+    pub fn new(sample: Sample) -> Self
+        requires { (is_price sample.market.bid ≡ true) × (is_price sample.market.offer ≡ true) × (is_price sample.last ≡ true) × (is_price sample.index ≡ true) }
+        ensures { result.sample ≡ sample }
     {
-        Priced {
-            sample: Sample::new(bid, offer, last, index),
-        }
+        Priced { sample }
     }
 }
