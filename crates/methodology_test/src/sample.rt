@@ -74,7 +74,8 @@ pub struct Priced {
 
 impl Priced {
     pub fn new(sample: Sample) -> Self
-        requires { (is_price sample.market.bid ≡ true) × (is_price sample.market.offer ≡ true) × (is_price sample.last ≡ true) × (is_price sample.index ≡ true) }
+        requires { (is_price sample.market.bid ≡ true) × (is_price sample.market.offer ≡ true)
+            × (is_price sample.last ≡ true) × (is_price sample.index ≡ true) }
         ensures { result.sample ≡ sample }
     {
         Priced { sample }
