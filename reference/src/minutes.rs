@@ -44,7 +44,7 @@ pub fn valid_minutes(history: &History, day: usize, rules: &dyn CallRules) -> Ve
         let calls = &calls[places];
         let minute = Minute {
             market: rules.minute_market(start.market, calls),
-            last: last_trade(calls, rules).or(start.last),
+            last: rules.last_trade(start.last, calls),
             index: list.index(number),
             halted: rules.is_halted(halts, day),
         };
@@ -65,11 +65,4 @@ fn calls_on_market(day: &Day, rules: &dyn CallRules) -> Vec<Call> {
         call => call,
     };
     (0..day.calls.len()).map(stands_as).collect()
-}
-
-fn last_trade(calls: &[Call], rules: &dyn CallRules) -> Option<u32> {
-    calls.iter().rev().find_map(|call| match call {
-        Call::Trade(trade) if rules.sets_last(*trade) => Some(trade.price),
-        _ => None,
-    })
 }

@@ -1,5 +1,5 @@
-//! The rules that decide what a ledger answers, each with its sentence of document 01 or, marked
-//! `02-1:`, of request 1 of document 02.
+//! The rules that decide what a ledger answers, each with its sentence of document 01 or, marked by
+//! its number as in `02-1:`, of a request of document 02.
 
 mod calls;
 mod files;

@@ -116,6 +116,30 @@ fn the_last_minute_decides_the_price_by_simple_trades() {
     assert_eq!(printout(10, &file), expected);
 }
 
+#[test]
+fn only_simple_trades_set_the_last_price() {
+    let mut file = Writer::new();
+    file.quote(200_100, 200_300)
+        .trade((1, 2), 2, 250, 200_150)
+        .minute_ends(1, 200_000) // no last price, so the middle: 1,000,000
+        .trade((1, 2), 1, 1, 200_250)
+        .minute_ends(1, 200_000) // 1,000,000
+        .trade((1, 2), 0, 1, 200_300)
+        .minute_ends(1, 200_000) // 1,500,000
+        .trade((1, 2), 1, 1, 200_101)
+        .minute_ends(1, 200_000) // 1,500,000
+        .trade((1, 2), 2, 250, 200_100)
+        .minute_ends(1, 200_000) // 1,500,000
+        .trade((1, 2), 0, 1, 200_090)
+        .trade((1, 2), 2, 250, 200_250)
+        .quote(0, 0)
+        .minute_ends(1, 200_000) // 200,090 is outside, so the middle: 1,000,000
+        .minute_ends(1_314, 0)
+        .fix(200_200); // S = 27,000,000 over 21; −1,285,714 × 200,200 × 10 / 10^11 = −25.74
+    let expected = "day 1 price 200200 rate 1285714 amount -26 valid 6\nend\n";
+    assert_eq!(printout(10, &file), expected);
+}
+
 /// Document 01's example on a short day with trades around its last minute, then a full day.
 #[test]
 fn a_short_day_goes_by_its_own_last_minute() {
@@ -124,7 +148,7 @@ fn a_short_day_goes_by_its_own_last_minute() {
         .quote(200_100, 200_300)
         .minute_ends(1_138, 200_000)
         .trade((3, 3), 0, 1, 200_300)
-        .trade((3, 3), 1, 1, 200_200)
+        .trade((3, 3), 0, 1, 200_200)
         .minute_ends(1, 200_000)
         .trade((3, 7), 0, 12, 200_200)
         .minute_ends(1, 200_000)

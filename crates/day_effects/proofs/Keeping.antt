@@ -1,35 +1,41 @@
 -- What a call leaves of a day within its limits, by the parts of the day.
 --     markets_hold-each, minute_market_holds-as_minute     the markets
---     held-with_length                 a length of day, before the date has begun
+--     held-with_markets           a quote, a halt and a resume, with which the date has begun
+--     held-with_fixed             a fix
+--     held-with_length            a length of day, before the date has begun
 --     trade_fields                what refusal 5 leaves of a trade's values
+--     held-traded                 a trade, with which the date has begun
 --     accrues                     what the weighted sum of a valid minute requires
---     held-minute_ended                a minute's end, with which the date has begun
+--     held-minute_ended           a minute's end, with which the date has begun
 -- Assumes nothing.
-use mathlib.Core.Path.{◌≡◌, refl, ap}
-use mathlib.Core.Bool.{Bool, true, false, not, cond, ◌&&◌, ◌||◌}
+use mathlib.Core.Path.{◌≡◌, refl, ◌∙◌, ap}
+use mathlib.Core.Bool.{Bool, true, false, not, cond, ◌&&◌, ◌||◌, or-true}
 use mathlib.Core.List.{[], ◌∷◌}
 use Prim.Native.Nat.{ℕ, ◌+◌, ◌*◌, ◌<◌, ◌≤◌}
 use native.Mathlib.Nat.{mul-le-mul_left}
 use native.Mathlib.Omega.{arith}
 use lib.Dec.{ltb, eqb}
 use lib.IntN.{nat_abs}
-use borrow.Author.Tests.{eqb-true, not-false}
+use borrow.Author.Tests.{eqb-true, eq-eqb, not-false}
 use Rattle.std.proofs.lemmas.Bool.{and_parts, cond_both}
 use Rattle.integers.proofs.Tests.{tests, either, ◌and◌, each, none}
 use Rattle.prices.specs.Price.{least_price, largest_price, is_price, is_present, none_or_price}
 use Rattle.funding.specs.Minute.{within_spread, futures_price, basis_of, accrued, weighted_limit, Accrues}
 use Rattle.funding.specs.declared.Terms.{Terms}
-use Rattle.prices.proofs.Prices.{price_to, the_price}
+use Rattle.prices.proofs.Prices.{none_or_price-price, price_to, the_price}
 use Rattle.funding.proofs.Bounds.{basis_size, futures_is_price, accrued_size}
 use Rattle.funding.specs.declared.market.Market.{Market}
 use Rattle.calls.specs.declared.Trade.{Trade}
 use Rattle.funding.specs.Market.{no_market, two_sided, as_minute, is_valid, market_holds, minute_market_holds}
 use Rattle.calls.specs.Length.{full_day, is_length}
-use Rattle.calls.specs.Trade.{most_quantity, kind_outside, trade_outside}
+use Rattle.calls.specs.Trade.{most_quantity, is_simple, kind_outside, trade_outside}
+use Rattle.day.specs.declared.Markets.{Markets}
+use Rattle.day.specs.declared.Trades.{Trades}
+use Rattle.day.specs.declared.Fixed.{Fixed}
 use Rattle.day.specs.declared.Day.{Day}
 use Rattle.day.specs.Day.{day_length, is_fixed, forbids_length, in_last_minute, minute_of}
-use Rattle.day_effects.specs.Effects.{with_markets, minute_ended, with_minutes, next_minute, begun, with_length}
-use Rattle.day.specs.Limits.{markets_hold}
+use Rattle.day_effects.specs.Effects.{with_markets, with_minutes, with_trades, with_fixed, begun, with_length, traded, minute_ended, next_minute}
+use Rattle.day.specs.Limits.{most_amount, markets_hold}
 use Rattle.day.proofs.Held.{HeldDay, day_most, held_minute}
 
 -- ---- the parts of a day
@@ -40,6 +46,30 @@ markets_hold-each standing minute s m = s and m
 pub minute_market_holds-as_minute : (m other : Market) → market_holds m ≡ true → minute_market_holds other ≡ true → minute_market_holds (as_minute m other) ≡ true
 minute_market_holds-as_minute m other hm ho =
     cond_both (two_sided m) _ _ (λ x. minute_market_holds x ≡ true) (λ e. hm and ap (λ t. t || (eqb m.bid 0 && eqb m.offer 0)) e) (λ e. ho)
+
+-- a quote, a halt, a resume and a trade change no more than these, and with them the date has begun
+held-begun : (d : Day) → HeldDay d → (m : Markets) → markets_hold m ≡ true → (t : Trades) → none_or_price t.last ≡ true → HeldDay (begun (with_trades (with_markets d m) t))
+held-begun d h m hm t ht =
+    record { length = h.length; ended = h.ended; valid = h.valid; weighted = h.weighted; markets = hm; last = ht; index = h.index; price = h.price; amount = h.amount; fix = h.fix; start = refl }
+
+pub held-with_markets : (d : Day) → HeldDay d → (m : Markets) → markets_hold m ≡ true → HeldDay (begun (with_markets d m))
+held-with_markets d h m hm = held-begun d h m hm d.trades h.last
+
+pub held-with_fixed : (d : Day) → HeldDay d → (x : Fixed) → day_length d ≤ d.minutes.ended → none_or_price x.price ≡ true → nat_abs x.amount ≤ most_amount → HeldDay (with_fixed d x)
+held-with_fixed d h x ended price amount =
+    record {
+      length = h.length;
+      ended = h.ended;
+      valid = h.valid;
+      weighted = h.weighted;
+      markets = h.markets;
+      last = h.last;
+      index = h.index;
+      price = price;
+      amount = amount;
+      fix = ap (λ t. not (is_present x.price) || t) (eq-eqb d.minutes.ended (day_length d) (omega (arith, h.ended))) ∙ or-true (not (is_present x.price));
+      start = h.start;
+    }
 
 -- no minute has ended, so that any length will do, and the day is not fixed
 pub held-with_length : (d : Day) → HeldDay d → (l : ℕ) → forbids_length d ≡ false → is_length l ≡ true → HeldDay (begun (with_length d l))
@@ -78,6 +108,13 @@ trade_fields t h =
     let price = not-false (is_price t.price) (v 2) in
     let p = price_to t.price price in
     record { quantity = omega (tests, v 1); price = price; low = omega (arith, mul-le-mul_left t.quantity p.0); high = mul-le-mul_left t.quantity p.1 }
+
+-- the last trade is the one before, or a price
+pub held-traded : (d : Day) → HeldDay d → (t : Trade) → trade_outside t ≡ false → HeldDay (begun (with_trades d (traded d t)))
+held-traded d h t field =
+    let price = none_or_price-price t.price (trade_fields t field).price in
+    let last = cond_both (is_simple t.kind) t.price d.trades.last (λ p. none_or_price p ≡ true) (λ e. price) (λ e. h.last) in
+    held-begun d h d.markets h.markets (traded d t) last
 
 -- ---- a minute's end
 

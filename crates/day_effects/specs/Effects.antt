@@ -2,7 +2,7 @@
 use Rattle.std.specs.Prelude.{Bool, true, cond, ℕ, ◌+◌, ℤ}
 use Rattle.funding.specs.Minute.{basis_of, accrued}
 use Rattle.funding.specs.{declared.market.Market.Market, Market.no_market, Market.as_minute}
-use Rattle.calls.specs.declared.Trade.{Trade}
+use Rattle.calls.specs.{declared.Trade.Trade, Trade.is_simple}
 use Rattle.day.specs.{declared.Minutes.Minutes, declared.Markets.Markets, declared.Trades.Trades, declared.Fixed.Fixed, declared.Session.Session, declared.Day.Day, Day.day_length, Day.in_last_minute, Day.is_final, Day.with_trade, Day.minute_of}
 
 -- ---- a part of a day, changed
@@ -38,10 +38,10 @@ with_length d minutes = with_session d (record { length = minutes; begun = d.ses
 abbrev pub quoted : Markets → Market → Markets
 quoted m q = record { standing = q; minute = as_minute q m.minute }
 
--- 01: "The price becomes the day's last trade, whatever its kind"; a kind 0 trade of the last minute counts towards the settlement price
+-- 02-2: "only simple trades as the last trade price"; 01: a kind 0 trade of the last minute counts towards the settlement price
 abbrev pub traded : Day → Trade → Trades
 traded d t = record {
-  last = t.price;
+  last = cond (is_simple t.kind) t.price d.trades.last;
   settling = cond (is_final (day_length d) d.minutes.ended t) (with_trade d.trades.settling t) d.trades.settling;
 }
 

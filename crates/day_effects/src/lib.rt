@@ -45,24 +45,18 @@ pub fn without_markets(mut day: Day) -> Day
 }
 
 // Room for the trade in n and in the gross is required.
-pub fn traded(day: Day, t: Trade) -> Day
+pub fn traded(mut day: Day, t: Trade) -> Day
     requires { RoomForTrade day.trades.settling t }
     ensures { result ≡ with_trades day (Effects·traded day t) }
 {
-    let mut after = day;
-    if day.is_in_last_minute() & (t.kind == Kind::Simple) {
-        let trades = Trades {
-            last: t.price,
-            settling: FinalMinute {
-                contracts: day.trades.settling.contracts + t.quantity,
-                gross: day.trades.settling.gross + u64::from(t.quantity) * u64::from(t.price),
-            },
-        };
-        after.trades = trades;
-        return after;
+    if t.kind == Kind::Simple {
+        day.trades.last = t.price;
+        if day.is_in_last_minute() {
+            day.trades.settling.contracts += t.quantity;
+            day.trades.settling.gross += u64::from(t.quantity) * u64::from(t.price);
+        }
     }
-    after.trades.last = t.price;
-    after
+    day
 }
 
 // Here and below the index of a minute stands beside whether the minute is valid: it may be the day's index either way, so that a

@@ -1,10 +1,10 @@
 -- Demand 3's figures, from the accepted calls alone: the market, the days, and each day's trades, minutes and fixes.
 -- A history is the accepted calls with the latest first: `c ∷ h` is the call c after those of h. Nothing here reads a book.
-use mathlib.Core.{Bool.Bool, Bool.true, Bool.false, List.List, List.[], List.◌∷◌}
+use mathlib.Core.{Bool.Bool, Bool.true, Bool.false, Bool.cond, List.List, List.[], List.◌∷◌}
 use Rattle.std.specs.Prelude.{ℕ, length}
 use Rattle.integers.specs.{declared.Tie.Tie, declared.Tie.TheVariants.Even, Lists.keep_if}
 use Rattle.funding.specs.{declared.Terms.Terms, Terms.standard_terms, Minute.Minute, declared.market.Market.Market, Market.no_market, Market.as_minute, Market.is_valid}
-use Rattle.calls.specs.{declared.Trade.Trade, declared.Call.Call, Calls.on_quote, Calls.on_trade, Calls.on_halt, Calls.on_resume, Calls.by_call, Calls.on_minute_end, Calls.on_fix, Calls.on_close, Calls.on_day_length, Length.full_day}
+use Rattle.calls.specs.{declared.Trade.Trade, Trade.is_simple, declared.Call.Call, Calls.on_quote, Calls.on_trade, Calls.on_halt, Calls.on_resume, Calls.by_call, Calls.on_minute_end, Calls.on_fix, Calls.on_close, Calls.on_day_length, Length.full_day}
 use Rattle.day.specs.Day.{is_final, minute_of}
 
 abbrev pub History : Type 0
@@ -48,10 +48,10 @@ minute_market [] = no_market
 minute_market (c ∷ h) =
     on_quote (λ m. as_minute m (minute_market h)) (on_minute_end (λ u. as_minute (market h) no_market) (on_halt no_market (on_close no_market (minute_market h) c) c) c) c
 
--- 01: "The price becomes the day's last trade, whatever its kind"; 0 without one today
+-- 02-2: "only simple trades as the last trade price"; 0 without one today
 unfoldable pub last : History → ℕ
 last [] = 0
-last (c ∷ h) = on_trade (λ t. t.price) (on_close 0 (last h) c) c
+last (c ∷ h) = on_trade (λ t. cond (is_simple t.kind) t.price (last h)) (on_close 0 (last h) c) c
 
 -- ---- the days
 

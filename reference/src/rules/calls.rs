@@ -106,9 +106,18 @@ pub trait CallRules: Sync {
         trade.day == today
     }
 
-    /// "The price becomes the day's last trade, whatever its kind."
-    fn sets_last(&self, _trade: Trade) -> bool {
-        true
+    /// 02-2: "The trade now takes only simple trades as the last trade price."
+    fn sets_last(&self, trade: Trade) -> bool {
+        trade.kind == SIMPLE
+    }
+
+    /// The last trade price after calls of one minute: "The price becomes the day's last trade."
+    fn last_trade(&self, at_start: Option<u32>, calls: &[Call]) -> Option<u32> {
+        let last = calls.iter().rev().find_map(|call| match call {
+            Call::Trade(trade) if self.sets_last(*trade) => Some(trade.price),
+            _ => None,
+        });
+        last.or(at_start)
     }
 
     /// "A kind 0 trade" adds to n and gross,

@@ -11,11 +11,12 @@ use crate::damage::damage;
 use crate::generator::Generator;
 use reference::terms::SHORT_DAY;
 
-const PROFILES: [fn(&mut Generator); 19] = [
+const PROFILES: [fn(&mut Generator); 20] = [
     markets::busy_days,
     markets::few_valid_minutes,
     markets::half_pennies,
     markets::spread_edges,
+    markets::last_trades,
     markets::market_changes,
     settlements::last_minute,
     settlements::index_days,

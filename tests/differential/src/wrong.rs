@@ -52,7 +52,7 @@ const fn in_files(name: &'static str, files: &'static dyn FileRules) -> WrongLed
 }
 
 /// A static, so that their rules are compiled here alone.
-pub static ALL: [WrongLedger; 87] = [
+pub static ALL: [WrongLedger; 93] = [
     // Rounding.
     in_calls("tie-up", &TieUp),
     in_calls("tie-away-from-zero", &TieAwayFromZero),
@@ -68,7 +68,11 @@ pub static ALL: [WrongLedger; 87] = [
     in_calls("no-clamp", &NoClamp),
     in_calls("strict-spread", &StrictSpread),
     in_calls("last-at-side-outside", &LastAtSideOutside),
-    in_calls("last-of-simple-trades-only", &LastOfSimpleTradesOnly),
+    in_calls("spread-trades-set-last", &LAST_OF_SPREAD_TRADES),
+    in_calls("blocks-set-last", &LAST_OF_BLOCKS),
+    in_calls("other-kinds-clear-last", &OtherKindsClearLast),
+    in_calls("other-kinds-set-first-last", &OtherKindsSetFirstLast),
+    in_calls("last-of-the-minute-only", &LastOfTheMinuteOnly),
     in_calls("close-keeps-last", &CloseKeepsLast),
     in_calls("close-keeps-market", &CloseKeepsMarket),
     in_calls("one-sided-serves-next-minute", &OneSidedServesNextMinute),
@@ -89,6 +93,8 @@ pub static ALL: [WrongLedger; 87] = [
     // Positions, volumes and cash.
     in_calls("amount-on-positions-at-fix", &AmountOnPositionsAtFix),
     in_calls("close-keeps-cost", &CloseKeepsCost),
+    in_calls("other-kinds-leave-positions", &OtherKindsLeavePositions),
+    in_calls("other-kinds-leave-cost", &OtherKindsLeaveCost),
     in_calls("self-trade-read-before-write", &SelfTradeReadBeforeWrite),
     in_calls("self-trade-once-in-volume", &SelfTradeOnceInVolume),
     in_calls("close-keeps-volume", &CloseKeepsVolume),

@@ -131,6 +131,46 @@ fn spread_edge(generator: &mut Generator) -> usize {
     1
 }
 
+/// Blocks and spread trades around simple ones, in any minute and in the last.
+pub fn last_trades(generator: &mut Generator) {
+    for _ in 0..generator.random.between(1, 5) {
+        let length = generator.start_date();
+        let (bid, offer) = market_at_level(generator);
+        generator.file.quote(bid, offer);
+        let busy = generator.random.between(1, 8) as usize;
+        generator.minutes(length - 1, busy, trades_of_each_kind);
+        trades_of_each_kind(generator);
+        generator.quiet_minutes(1);
+        generator.fix_and_close();
+    }
+}
+
+/// A market around the level, within the spread limit.
+fn market_at_level(generator: &Generator) -> (u32, u32) {
+    let half = (generator.level / 10_000 * 10).max(10);
+    (generator.level - half, generator.level + half)
+}
+
+/// Trades at the sides of that market, within and outside it.
+fn trades_of_each_kind(generator: &mut Generator) -> usize {
+    let (bid, offer) = market_at_level(generator);
+    for _ in 0..generator.random.between(1, 4) {
+        let accounts = generator.two_accounts();
+        let within = generator.random.between(bid, offer) / 10 * 10;
+        let prices = [bid - 10, bid, within, within, offer, offer + 10];
+        let price = generator.random.pick(&prices);
+        let kind = generator.random.pick(&[SIMPLE, SPREAD, BLOCK]);
+        let off_the_tick = match kind {
+            SIMPLE => 0,
+            _ => generator.random.below(10),
+        };
+        generator
+            .file
+            .trade(accounts, kind, 250, price + off_the_tick);
+    }
+    0
+}
+
 /// One-sided markets, halts and resumes within and across minutes.
 pub fn market_changes(generator: &mut Generator) {
     for _ in 0..generator.random.between(1, 4) {

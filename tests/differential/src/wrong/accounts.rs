@@ -1,5 +1,6 @@
 //! Wrong positions, volumes and cash.
 
+use dayformat::kind::SIMPLE;
 use reference::accounts::ClosedDays;
 use reference::call::{Account, Trade};
 use reference::history::AccountTrade;
@@ -20,6 +21,30 @@ impl CallRules for CloseKeepsCost {
     fn gain(&self, trade: &AccountTrade, closed: &ClosedDays) -> i128 {
         let closes = (closed.count() - trade.day) as i128;
         closed.last_price - i128::from(trade.trade.price) * closes
+    }
+}
+
+/// Blocks and spread trades move no position.
+pub struct OtherKindsLeavePositions;
+
+impl CallRules for OtherKindsLeavePositions {
+    fn signed_quantity(&self, trade: Trade, account: Account) -> i128 {
+        match trade.kind {
+            SIMPLE => RightLedger.signed_quantity(trade, account),
+            _ => 0,
+        }
+    }
+}
+
+/// Blocks and spread trades move no cost.
+pub struct OtherKindsLeaveCost;
+
+impl CallRules for OtherKindsLeaveCost {
+    fn gain(&self, trade: &AccountTrade, closed: &ClosedDays) -> i128 {
+        match trade.trade.kind {
+            SIMPLE => RightLedger.gain(trade, closed),
+            _ => closed.last_price,
+        }
     }
 }
 

@@ -1,6 +1,6 @@
 //! Wrong markets and halts, minutes, rates and amounts.
 
-use dayformat::kind::SIMPLE;
+use dayformat::kind::{BLOCK, SIMPLE, SPREAD};
 use reference::call::{Call, Market, Trade};
 use reference::fraction::Fraction;
 use reference::history::{Day, HaltOrResume};
@@ -62,11 +62,54 @@ impl CallRules for LastAtSideOutside {
     }
 }
 
-pub struct LastOfSimpleTradesOnly;
+/// Simple trades and those of one more kind set the last price.
+pub struct LastOfKind(u8);
 
-impl CallRules for LastOfSimpleTradesOnly {
+pub const LAST_OF_SPREAD_TRADES: LastOfKind = LastOfKind(SPREAD);
+pub const LAST_OF_BLOCKS: LastOfKind = LastOfKind(BLOCK);
+
+impl CallRules for LastOfKind {
     fn sets_last(&self, trade: Trade) -> bool {
-        trade.kind == SIMPLE
+        trade.kind == SIMPLE || trade.kind == self.0
+    }
+}
+
+/// The last trade of any kind.
+fn any_last(calls: &[Call]) -> Option<Trade> {
+    calls.iter().rev().find_map(|call| match call {
+        Call::Trade(trade) => Some(*trade),
+        _ => None,
+    })
+}
+
+/// A block or a spread trade leaves no last price.
+pub struct OtherKindsClearLast;
+
+impl CallRules for OtherKindsClearLast {
+    fn last_trade(&self, at_start: Option<u32>, calls: &[Call]) -> Option<u32> {
+        match any_last(calls) {
+            Some(trade) => (trade.kind == SIMPLE).then_some(trade.price),
+            None => at_start,
+        }
+    }
+}
+
+/// A block or a spread trade sets the last price where there was none today.
+pub struct OtherKindsSetFirstLast;
+
+impl CallRules for OtherKindsSetFirstLast {
+    fn last_trade(&self, at_start: Option<u32>, calls: &[Call]) -> Option<u32> {
+        let last = RightLedger.last_trade(at_start, calls);
+        last.or_else(|| any_last(calls).map(|trade| trade.price))
+    }
+}
+
+/// A simple trade sets the last price of its own minute alone.
+pub struct LastOfTheMinuteOnly;
+
+impl CallRules for LastOfTheMinuteOnly {
+    fn last_trade(&self, _at_start: Option<u32>, calls: &[Call]) -> Option<u32> {
+        RightLedger.last_trade(None, calls)
     }
 }
 
@@ -76,7 +119,7 @@ impl CallRules for CloseKeepsLast {
     fn start_of_day(&self, earlier: &[Day]) -> Start {
         let mut calls = earlier.iter().flat_map(|day| &day.calls).rev();
         let last = calls.find_map(|call| match call {
-            Call::Trade(trade) => Some(trade.price),
+            Call::Trade(trade) if self.sets_last(*trade) => Some(trade.price),
             _ => None,
         });
         Start {
