@@ -33,6 +33,7 @@ demand_three n s cs e =
     record {
       cash = λ j k. ap (λ (b : Book). entry b.columns.cash j) r.book_is ∙ table_at n (cash_of s h) j (pos 0) k;
       position = λ j k. ap (λ (b : Book). entry b.columns.position j) r.book_is ∙ table_at n (net h) j (pos 0) k;
+      amount = ap (λ (b : Book). b.figures.day.fixed.amount) r.book_is;
       positions_cancel = ap (λ (b : Book). total b.columns.position) r.book_is ∙ net_cancels n s h r.all_passed;
       cash_cancels = ap (λ (b : Book). total b.columns.cash) r.book_is ∙ cash_cancels n s h r.all_passed;
       days_and_today = days_and_today h;

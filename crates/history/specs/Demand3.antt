@@ -1,8 +1,9 @@
 -- Demand 3 of document 01, as one claim.
 --
 -- Open a book of n accounts with a size, and make any list of calls on it. The book answers each with a refusal number or accepts it. Keep the accepted calls
--- alone: the history. From the history and the size, and never from the book, specs/ works out each account's net position and cash. The claim:
---   every account's position and cash in the book after the list are those figures;
+-- alone: the history. From the history and the size, and never from the book, specs/ works out each day's amount, and each account's net position and cash.
+-- The claim:
+--   every account's position and cash in the book after the list are those figures, and so is the amount of the day, once it is fixed;
 --   the positions of all accounts add up to zero, and so does their cash;
 --   the history is its closed days and the open day put together, with no call left out or counted twice;
 --   every closed day has all of its minute ends and one fix, so that "its one accepted fix" names one P and one amount.
@@ -14,7 +15,7 @@ use Rattle.calls.specs.declared.Call.TheVariants as call
 use Rattle.calls.specs.declared.Call.{Call}
 use Rattle.columns.specs.Columns.{entry}
 use Rattle.ledger.specs.{declared.Book.Book, Step.run, Step.accepted_calls, Step.opening}
-use Rattle.history.specs.{History.History, History.length_of, History.closings, History.today, History.minute_ends, History.fixes, Cash.net, Cash.cash_of}
+use Rattle.history.specs.{History.History, History.length_of, History.closings, History.today, History.minute_ends, History.fixes, Cash.amount_on, Cash.net, Cash.cash_of}
 
 -- the book of n accounts, opened with the size s, after the calls cs
 abbrev pub after : ℕ → ℕ → List Call → Book
@@ -41,6 +42,8 @@ total l = sum (λ z. z) l
 pub record Demand3 (n s : ℕ) (cs : List Call) : Type 0 where
   pub cash : (j : ℕ) → j < n → entry (after n s cs).columns.cash j ≡ cash_of s (history n s cs) j
   pub position : (j : ℕ) → j < n → entry (after n s cs).columns.position j ≡ net (history n s cs) j
+  -- 02-2: "Amounts are compared with that on every day of a book": of a closed day, by the list up to its fix
+  pub amount : (after n s cs).figures.day.fixed.amount ≡ amount_on s (history n s cs)
   pub positions_cancel : total (after n s cs).columns.position ≡ pos 0
   pub cash_cancels : total (after n s cs).columns.cash ≡ pos 0
   pub days_and_today : history n s cs ≡ today (history n s cs) ++ calls_of_days (closings (history n s cs))
