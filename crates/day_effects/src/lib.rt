@@ -9,9 +9,8 @@ ghost use Rattle.day_effects.specs.Effects.{traded as Effects·traded};
 ghost use Rattle.day_effects.specs.Inner.{RoomForTrade, Endable};
 
 use calls::{Kind, Trade};
-use day::{Day, Fixed, Markets, Trades};
+use day::{Day, Fixed, Markets};
 use funding::market::Market;
-use settlement::FinalMinute;
 
 fn quoted_markets(markets: Markets, market: Market) -> Markets
     ensures { result ≡ Effects·quoted markets market }
@@ -49,12 +48,13 @@ pub fn traded(mut day: Day, t: Trade) -> Day
     requires { RoomForTrade day.trades.settling t }
     ensures { result ≡ with_trades day (Effects·traded day t) }
 {
-    if t.kind == Kind::Simple {
-        day.trades.last = t.price;
-        if day.is_in_last_minute() {
-            day.trades.settling.contracts += t.quantity;
-            day.trades.settling.gross += u64::from(t.quantity) * u64::from(t.price);
-        }
+    if t.kind != Kind::Simple {
+        return day;
+    }
+    day.trades.last = t.price;
+    if day.is_in_last_minute() {
+        day.trades.settling.contracts += t.quantity;
+        day.trades.settling.gross += u64::from(t.quantity) * u64::from(t.price);
     }
     day
 }
