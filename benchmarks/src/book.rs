@@ -177,8 +177,7 @@ impl Book {
         Ok(())
     }
 
-    // Called out of line, a trade takes 1.3 times as long.
-    #[inline(always)]
+    #[inline]
     pub fn trade(&mut self, trade: Trade) -> Answer {
         refused_if(self.is_full(), DAY)?;
         refused_if(self.halted, HALT)?;

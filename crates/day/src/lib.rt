@@ -16,13 +16,13 @@ pub const MOST_AMOUNT: u64 = 10_000;
 // What minute ends set.
 #[derive(Clone, Copy, Default)]
 pub struct Minutes {
-    // the u of the last minute
-    pub index: u32,
     // valid count k, and weighted sum S
     pub valid: u32,
-    pub weighted: i64,
     // ended minutes
     pub ended: u32,
+    // the u of the last minute
+    pub index: u32,
+    pub weighted: i64,
 }
 
 // What quotes and halts set: the standing market and the minute's market.
@@ -51,20 +51,20 @@ pub struct Fixed {
 // What the first call of a date sets.
 #[derive(Clone, Copy)]
 pub struct Session {
-    // whether the date has accepted a quote, trade, halt, resume, minute end or length of day
-    pub begun: bool,
     // the minutes of the day
     pub length: u32,
+    // whether the date has accepted a quote, trade, halt, resume, minute end or length of day
+    pub begun: bool,
 }
 
 // The day's figures, which a close empties. A price, an index or a side is 0 for none and no Option, as a market's sides are.
 #[derive(Clone, Copy)]
 pub struct Day {
-    pub minutes: Minutes,
-    pub session: Session,
     pub markets: Markets,
-    pub fixed: Fixed,
+    pub session: Session,
     pub trades: Trades,
+    pub minutes: Minutes,
+    pub fixed: Fixed,
 }
 
 impl Markets {

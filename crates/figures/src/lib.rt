@@ -21,10 +21,10 @@ pub mod product;
 pub struct Figures {
     // closed days
     pub closed: u32,
-    pub halted: bool,
     pub size: u32,
-    pub day: Day,
     pub previous: Previous,
+    pub day: Day,
+    pub halted: bool,
 }
 
 // What a fix finds and prints.
