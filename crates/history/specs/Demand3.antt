@@ -3,7 +3,7 @@
 -- Open a book of n accounts with a size, and make any list of calls on it. The book answers each with a refusal number or accepts it. Keep the accepted calls
 -- alone: the history. From the history and the size, and never from the book, specs/ works out each day's amount, and each account's net position and cash.
 -- The claim:
---   every account's position and cash in the book after the list are those figures, and so is the amount of the day, once it is fixed;
+--   every account's position and cash in the book after the list are those figures, and so is the amount of the day, 0 before its fix;
 --   the positions of all accounts add up to zero, and so does their cash;
 --   the history is its closed days and the open day put together, with no call left out or counted twice;
 --   every closed day has all of its minute ends and one fix, so that "its one accepted fix" names one P and one amount.
@@ -42,7 +42,7 @@ total l = sum (λ z. z) l
 pub record Demand3 (n s : ℕ) (cs : List Call) : Type 0 where
   pub cash : (j : ℕ) → j < n → entry (after n s cs).columns.cash j ≡ cash_of s (history n s cs) j
   pub position : (j : ℕ) → j < n → entry (after n s cs).columns.position j ≡ net (history n s cs) j
-  -- 02-2: "Amounts are compared with that on every day of a book": of a closed day, by the list up to its fix
+  -- 02-2: "Amounts are compared with that on every day of a book": of a closed day, by the list that ends with its fix
   pub amount : (after n s cs).figures.day.fixed.amount ≡ amount_on s (history n s cs)
   pub positions_cancel : total (after n s cs).columns.position ≡ pos 0
   pub cash_cancels : total (after n s cs).columns.cash ≡ pos 0

@@ -52,7 +52,7 @@ const fn in_files(name: &'static str, files: &'static dyn FileRules) -> WrongLed
 }
 
 /// A static, so that their rules are compiled here alone.
-pub static ALL: [WrongLedger; 93] = [
+pub static ALL: [WrongLedger; 94] = [
     // Rounding.
     in_calls("tie-up", &TieUp),
     in_calls("tie-away-from-zero", &TieAwayFromZero),
@@ -132,6 +132,7 @@ pub static ALL: [WrongLedger; 93] = [
     in_refusals("length-after-1320", &LENGTH_AFTER_1320),
     in_refusals("length-after-quote", &LENGTH_AFTER_QUOTE),
     in_refusals("length-after-trade", &LENGTH_AFTER_TRADE),
+    in_refusals("length-after-block", &LENGTH_AFTER_BLOCK),
     in_refusals("length-after-halt", &LENGTH_AFTER_HALT),
     in_refusals("length-after-resume", &LENGTH_AFTER_RESUME),
     in_refusals("length-after-minute-end", &LENGTH_AFTER_MINUTE_END),

@@ -98,7 +98,7 @@ fn half_penny_fix(generator: &mut Generator, price: u32) {
     generator.file.close();
 }
 
-/// Spreads at 0.005 and a tick beyond, with the last trade at, within and outside them.
+/// Spreads at 0.005 and a tick beyond, with trades at, within and outside them.
 pub fn spread_edges(generator: &mut Generator) {
     for _ in 0..generator.random.between(1, 4) {
         let length = generator.start_date();

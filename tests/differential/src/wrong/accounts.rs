@@ -24,7 +24,7 @@ impl CallRules for CloseKeepsCost {
     }
 }
 
-/// Blocks and spread trades move no position.
+/// Blocks and spread trades move no position, and so no cash.
 pub struct OtherKindsLeavePositions;
 
 impl CallRules for OtherKindsLeavePositions {

@@ -1,5 +1,6 @@
 //! Wrong lengths of day: what goes by them, which are refused, and where their record may come.
 
+use dayformat::kind::BLOCK;
 use reference::call::Call;
 use reference::file::Record;
 use reference::history::{Day, History};
@@ -85,6 +86,8 @@ pub static LENGTH_AFTER_LENGTH: LengthAfter =
 pub static LENGTH_AFTER_1320: LengthAfter = LengthAfter(|call| call == Call::LengthOfDay(FULL_DAY));
 pub static LENGTH_AFTER_QUOTE: LengthAfter = LengthAfter(|call| matches!(call, Call::Quote(_)));
 pub static LENGTH_AFTER_TRADE: LengthAfter = LengthAfter(|call| matches!(call, Call::Trade(_)));
+pub static LENGTH_AFTER_BLOCK: LengthAfter =
+    LengthAfter(|call| matches!(call, Call::Trade(trade) if trade.kind == BLOCK));
 pub static LENGTH_AFTER_HALT: LengthAfter = LengthAfter(|call| call == Call::Halt);
 pub static LENGTH_AFTER_RESUME: LengthAfter = LengthAfter(|call| call == Call::Resume);
 pub static LENGTH_AFTER_MINUTE_END: LengthAfter =

@@ -99,8 +99,13 @@ pub struct OtherKindsSetFirstLast;
 
 impl CallRules for OtherKindsSetFirstLast {
     fn last_trade(&self, at_start: Option<u32>, calls: &[Call]) -> Option<u32> {
-        let last = RightLedger.last_trade(at_start, calls);
-        last.or_else(|| any_last(calls).map(|trade| trade.price))
+        let first = || {
+            calls.iter().find_map(|call| match call {
+                Call::Trade(trade) => Some(trade.price),
+                _ => None,
+            })
+        };
+        RightLedger.last_trade(at_start, calls).or_else(first)
     }
 }
 
