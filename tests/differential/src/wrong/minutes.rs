@@ -74,9 +74,9 @@ impl CallRules for LastOfKind {
     }
 }
 
-/// The last trade of any kind.
-fn any_last(calls: &[Call]) -> Option<Trade> {
-    calls.iter().rev().find_map(|call| match call {
+/// The trades among these calls, of every kind.
+fn trades(calls: &[Call]) -> impl DoubleEndedIterator<Item = Trade> + '_ {
+    calls.iter().filter_map(|call| match call {
         Call::Trade(trade) => Some(*trade),
         _ => None,
     })
@@ -87,7 +87,7 @@ pub struct OtherKindsClearLast;
 
 impl CallRules for OtherKindsClearLast {
     fn last_trade(&self, at_start: Option<u32>, calls: &[Call]) -> Option<u32> {
-        match any_last(calls) {
+        match trades(calls).next_back() {
             Some(trade) => (trade.kind == SIMPLE).then_some(trade.price),
             None => at_start,
         }
@@ -99,12 +99,7 @@ pub struct OtherKindsSetFirstLast;
 
 impl CallRules for OtherKindsSetFirstLast {
     fn last_trade(&self, at_start: Option<u32>, calls: &[Call]) -> Option<u32> {
-        let first = || {
-            calls.iter().find_map(|call| match call {
-                Call::Trade(trade) => Some(trade.price),
-                _ => None,
-            })
-        };
+        let first = || trades(calls).next().map(|trade| trade.price);
         RightLedger.last_trade(at_start, calls).or_else(first)
     }
 }
@@ -122,13 +117,9 @@ pub struct CloseKeepsLast;
 
 impl CallRules for CloseKeepsLast {
     fn start_of_day(&self, earlier: &[Day]) -> Start {
-        let mut calls = earlier.iter().flat_map(|day| &day.calls).rev();
-        let last = calls.find_map(|call| match call {
-            Call::Trade(trade) if self.sets_last(*trade) => Some(trade.price),
-            _ => None,
-        });
+        let kept = |last, day: &Day| self.last_trade(last, &day.calls);
         Start {
-            last,
+            last: earlier.iter().fold(None, kept),
             ..RightLedger.start_of_day(earlier)
         }
     }
