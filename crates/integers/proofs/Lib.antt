@@ -1,7 +1,7 @@
 pub mod Laws
 pub mod Sizes
 pub mod Ring
-pub mod Machine
 pub mod Overflow
+pub mod Dividing
 pub mod Rounding
 pub mod Tests

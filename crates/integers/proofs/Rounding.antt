@@ -1,9 +1,9 @@
--- Rounding to the nearest whole number, from the machine's quotient and remainder.
+-- Rounding to the nearest whole number, from a quotient and a remainder.
 --     characterised     `rounded` is nearest, a tie going where its rule says, and nothing else is
 --     nearest_le, nearest_ge, rounded_le     a whole number that bounds x / d bounds what it is rounded to
---     stays, goes_on     the quotient, or its neighbour, is `rounded` by how the remainder stands to what it leaves of the divisor
+--     from_division     the quotient of a division, or the whole number after it, is `rounded`
 -- Assumes nothing.
-use mathlib.Core.Path.{◌≡◌, refl, sym, ◌∙◌, ap}
+use mathlib.Core.Path.{◌≡◌, refl, sym, ◌∙◌, ap, ap₂}
 use mathlib.Core.Bool.{Bool, true, false, cond, ◌&&◌, ◌||◌}
 use mathlib.Core.Logic.{◌⊎◌, inl, inr, ⊎_elim}
 use Prim.Native.Nat.{ℕ, zero, suc, ◌+◌, ◌*◌, ◌/◌, ◌%◌, ◌<◌, ◌≤◌}
@@ -11,16 +11,18 @@ use native.Mathlib.Nat.{div-add-mod, mod-lt, lt_of_mul-lt-mul_right}
 use native.Mathlib.Omega.{arith}
 use lib.Dec.{ltb, eqb}
 use borrow.Author.Differences.{up, down, sum_is_lem, product_is, neg_is, ints}
-use borrow.Author.Tests.{lt-ltb, le-ltb, ltb-true, ltb-false, eqb-true, eqb-false}
+use borrow.Author.Tests.{ltb-true, ltb-false}
 use Rattle.std.proofs.lemmas.Bool.{cond_both}
 use Rattle.std.proofs.lemmas.Int.{unsigned_abs-mul}
 use lib.IntN.{ℤ, pos, negsuc, neg_ℤ, nat_abs, ◌+ℤ◌, ◌-ℤ◌, ◌*ℤ◌, neg_ℤ-+ℤ}
-use lib.Signed.{quot_z, rem_z, ◌<ℤ◌}
+use lib.Signed.{◌<ℤ◌}
+use Rattle.integers.specs.declared.Division.{Division}
 use Rattle.integers.specs.declared.Tie.{Tie}
 use Rattle.integers.specs.declared.Tie.TheVariants.{Even, Away}
+use Rattle.integers.specs.Dividing.{Divides}
 use Rattle.integers.specs.Rounding.{with_sign_of, on_tie, nearest, rounded, distance, Chosen, Nearest, Characterised}
 use Rattle.integers.proofs.Sizes.{size, apart, abs_sub}
-use Rattle.integers.proofs.Machine.{abs_quot, abs_rem}
+use Rattle.integers.proofs.Dividing.{quotient_size, quotient_sign, remainder_size}
 use Rattle.integers.proofs.Ring.{ring, ◌⊖◌, ◌⊗◌}
 
 -- ---- over ℕ
@@ -198,53 +200,39 @@ nearest_is_unique tie x d p q h P Q = go (nat_abs (q -ℤ p)) refl
 pub characterised : Characterised
 characterised = record { rounded_is_nearest = rounded_is_nearest; nearest_is_unique = nearest_is_unique }
 
--- ---- from the machine's quotient and remainder
+-- ---- from one quotient and one remainder
 
-nearest_below : (tie : Tie) (a d : ℕ) → 2 * (a % d) < d → nearest tie a d ≡ a / d
+-- whether the quotient of a division goes on, by the divisor and twice the remainder
+abbrev pub goes : ℕ → ℕ → Bool → Bool
+goes d r g = ltb d (2 * r) || (eqb d (2 * r) && g)
+
+-- the quotient goes on where twice the remainder is above the divisor, or is the divisor and the tie goes on, as g says
+nearest_by : (tie : Tie) (a d : ℕ) (g : Bool) → on_tie tie (a / d) ≡ a / d + cond g 1 0 → nearest tie a d ≡ a / d + cond (goes d (a % d) g) 1 0
 unfolding nearest
-nearest_below tie a d h = rw (lt-ltb (2 * (a % d)) d h)
+nearest_by tie a d g t = grind (arith, t)
 
-nearest_above : (tie : Tie) (a d : ℕ) → d < 2 * (a % d) → nearest tie a d ≡ a / d + 1
-unfolding nearest
-nearest_above tie a d h = rw (le-ltb (2 * (a % d)) d (omega arith), lt-ltb d (2 * (a % d)) h)
+signed_sum : (x : ℤ) (k s : ℕ) → with_sign_of x (k + s) ≡ with_sign_of x k +ℤ with_sign_of x s
+signed_sum (pos a) k s = refl
+signed_sum (negsuc a) k s = neg_ℤ-+ℤ (pos k) (pos s)
 
-nearest_tied : (tie : Tie) (a d : ℕ) → 2 * (a % d) ≡ d → nearest tie a d ≡ on_tie tie (a / d)
-unfolding nearest
-nearest_tied tie a d h = rw (le-ltb (2 * (a % d)) d (omega arith), le-ltb d (2 * (a % d)) (omega arith))
+-- a remainder that is not 0 has the value's sign
+same_step : (x r : ℤ) (g : Bool) → r ≡ with_sign_of x (nat_abs r) → (g ≡ true → 0 < nat_abs r) → with_sign_of r (cond g 1 0) ≡ with_sign_of x (cond g 1 0)
+same_step (pos a) (pos b) g e h = refl
+same_step (pos a) (negsuc b) g e h = absurd (omega (arith, ints))
+same_step (negsuc a) (pos zero) false e h = refl
+same_step (negsuc a) (pos zero) true e h = absurd (omega (arith, h refl))
+same_step (negsuc a) (pos (suc b)) g e h = absurd (omega (arith, ints))
+same_step (negsuc a) (negsuc b) g e h = refl
 
-quot_signed : (x d : ℤ) → pos 0 <ℤ d → quot_z x d ≡ with_sign_of x (nat_abs x / nat_abs d)
-quot_signed (pos a) (pos n) h = refl
-quot_signed (negsuc a) (pos n) h = refl
-quot_signed x (negsuc n) h = absurd h.lt
-
-one_more : (x : ℤ) (k : ℕ) → with_sign_of x k +ℤ with_sign_of x 1 ≡ with_sign_of x (k + 1)
-one_more (pos a) k = refl
-one_more (negsuc a) k = sym (neg_ℤ-+ℤ (pos k) (pos 1))
-
--- a tie that its rule sends on or not, as g says; l is what the remainder leaves of the divisor
-nearest_by : (tie : Tie) (a d l : ℕ) (g : Bool) → l + a % d ≡ d → on_tie tie (a / d) ≡ a / d + cond g 1 0
-    → nearest tie a d ≡ a / d + cond (ltb l (a % d) || (eqb l (a % d) && g)) 1 0
-nearest_by tie a d l g e t = go (ltb l (a % d)) (eqb l (a % d)) refl refl
-  where
-    go : (s u : Bool) → ltb l (a % d) ≡ s → eqb l (a % d) ≡ u → nearest tie a d ≡ a / d + cond (s || (u && g)) 1 0
-    go true u p q = nearest_above tie a d (omega (arith, ltb-true l (a % d) p))
-    go false true p q = nearest_tied tie a d (omega (arith, eqb-true l (a % d) q)) ∙ t
-    go false false p q = nearest_below tie a d (omega (arith, ltb-false l (a % d) p, eqb-false l (a % d) q)) ∙ omega arith
-
-module _ (x d : ℤ) (dp : pos 0 <ℤ d) (tie : Tie) (l : ℕ) (g : Bool) (e : l + nat_abs (rem_z x d) ≡ nat_abs d)
-    (t : on_tie tie (nat_abs (quot_z x d)) ≡ nat_abs (quot_z x d) + cond g 1 0) where
-  abbrev goes : Bool
-  goes = ltb l (nat_abs (rem_z x d)) || (eqb l (nat_abs (rem_z x d)) && g)
-
-  by_size : (n : ℕ) → cond goes 1 0 ≡ n → rounded tie x (nat_abs d) ≡ with_sign_of x (nat_abs x / nat_abs d + n)
-  by_size n h =
-      let q = nat_abs x / nat_abs d in
-      let tied = rw (abs_quot x d) at t in
-      let e' : l + nat_abs x % nat_abs d ≡ nat_abs d = omega (arith, abs_rem x d) in
-      ap (with_sign_of x) (nearest_by tie (nat_abs x) (nat_abs d) l g e' tied ∙ ap (λ r. q + cond (ltb l r || (eqb l r && g)) 1 0) (sym (abs_rem x d)) ∙ ap (λ k. q + k) h)
-
-  pub stays : goes ≡ false → quot_z x d ≡ rounded tie x (nat_abs d)
-  stays h = quot_signed x d dp ∙ ap (with_sign_of x) (omega arith) ∙ sym (by_size 0 (ap (λ b. cond b 1 0) h))
-
-  pub goes_on : goes ≡ true → quot_z x d +ℤ with_sign_of x 1 ≡ rounded tie x (nat_abs d)
-  goes_on h = rw (quot_signed x d dp) (one_more x (nat_abs x / nat_abs d)) ∙ sym (by_size 1 (ap (λ b. cond b 1 0) h))
+pub from_division : (tie : Tie) (x d : ℤ) (p : Division) (g : Bool) → pos 0 <ℤ d → Divides x d p → on_tie tie (nat_abs p.quotient) ≡ nat_abs p.quotient + cond g 1 0
+    → p.quotient +ℤ with_sign_of p.remainder (cond (goes (nat_abs d) (nat_abs p.remainder) g) 1 0) ≡ rounded tie x (nat_abs d)
+from_division tie x d p g h P t =
+    let a = nat_abs x in
+    let n = nat_abs d in
+    let q : nat_abs p.quotient ≡ a / n = quotient_size x d p h P in
+    let r : nat_abs p.remainder ≡ a % n = remainder_size x d p h P in
+    let step : ℕ = cond (goes n (nat_abs p.remainder) g) 1 0 in
+    let not_0 : goes n (nat_abs p.remainder) g ≡ true → 0 < nat_abs p.remainder = grind (arith, P.smaller) in
+    ap₂ ◌+ℤ◌ (quotient_sign x d p h P) (same_step x p.remainder (goes n (nat_abs p.remainder) g) P.sign not_0)
+    ∙ sym (signed_sum x (a / n) step)
+    ∙ ap (with_sign_of x) (ap (λ r. a / n + cond (goes n r g) 1 0) r ∙ sym (nearest_by tie a n g (rw q at t)))

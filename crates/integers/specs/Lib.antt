@@ -1,3 +1,4 @@
+pub mod Dividing
 pub mod Rounding
 pub mod Size
 pub mod Lists

@@ -1,7 +1,8 @@
 // Division rounded to the nearest whole number. proofs/ is a library of laws of the integers that the other crates cite.
 #![tactic(auto)]
 
-ghost use Rattle.std.specs.Prelude.{◌≡◌, true, cond, ◌+◌, ◌<◌, ◌^◌, pos, nat_abs, ◌+ℤ◌, ◌<ℤ◌};
+ghost use Rattle.std.specs.Prelude.{◌≡◌, true, cond, ◌&&◌, ◌||◌, nat_eq, nat_lt, ◌+◌, ◌*◌, ◌<◌, ◌^◌, pos, nat_abs, ◌+ℤ◌, ◌-ℤ◌, ◌<ℤ◌};
+ghost use Rattle.integers.specs.Dividing.{Divides};
 ghost use Rattle.integers.specs.Rounding.{with_sign_of, on_tie, rounded, half_even};
 ghost use Rattle.integers.specs.Size.{within};
 
@@ -21,14 +22,45 @@ pub fn is_within(x: i64, limit: u64) -> bool
     x.unsigned_abs() <= limit
 }
 
-// The whole number after q on the side of x, farther from zero, where the quotient goes on to it, else q. There has to be one where
-// it does: q is then not the largest or the least. A step of 0 or 1 is added in any case, so that the machine has nothing to foretell.
-fn farther(q: i64, x: i64, goes_on: bool) -> i64
+// The quotient and the remainder of one division.
+#[derive(Clone, Copy)]
+pub struct Division {
+    pub quotient: i64,
+    pub remainder: i64,
+}
+
+// x / d, for either sign of x. A quotient by 0 has no value, so each caller shows that its divisor is positive.
+pub fn divided(x: i64, d: i64) -> Division
+    requires { pos 0 <ℤ d }
+    ensures { Divides x d result }
+{
+    Division {
+        quotient: x / d,
+        remainder: x % d,
+    }
+}
+
+// The whole number after q on the remainder's side, where the quotient goes on to it, else q. There has to be one where it does: q is
+// then not the largest or the least. A step of 0 or 1 is added in any case, so that the machine has nothing to foretell.
+fn next(q: i64, remainder: i64, goes_on: bool) -> i64
     requires { goes_on ≡ true → nat_abs q + 1 < 2 ^ 63 }
-    ensures { result ≡ q +ℤ with_sign_of x (cond goes_on 1 0) }
+    ensures { result ≡ q +ℤ with_sign_of remainder (cond goes_on 1 0) }
 {
     let step = i64::from(goes_on);
-    if x < 0 { q - step } else { q + step }
+    if remainder < 0 { q - step } else { q + step }
+}
+
+// By how much the whole number after the quotient lies farther from x / d than the quotient does, times d: above 0 the quotient is
+// nearest, 0 is the tie, below 0 the number after it is nearest. The remainder keeps its sign: it is added below 0, and else subtracted.
+fn farther_by(d: i64, remainder: i64) -> i64
+    requires { pos (nat_abs remainder) <ℤ d }
+    ensures { result ≡ d -ℤ pos (2 * nat_abs remainder) }
+{
+    if remainder < 0 {
+        d + remainder + remainder
+    } else {
+        d - remainder - remainder
+    }
 }
 
 // Whether a tie goes on from the quotient q to the whole number after it.
@@ -36,24 +68,32 @@ fn tie_goes_on(q: i64, tie: Tie) -> bool
     ensures { on_tie tie (nat_abs q) ≡ nat_abs q + cond result 1 0 }
 {
     match tie {
-        Tie::Even => q.unsigned_abs() % 2 != 0,
+        Tie::Even => q % 2 != 0,
         Tie::Away => true,
     }
 }
 
-// x / d rounded to the nearest whole number, by one quotient and one remainder for either sign of x: the remainder's size
-// is held to what it leaves of the divisor. Which side is nearer can't be foretold, so one test decides it, which the machine
-// answers without a jump. A quotient by 0 has no value, so each caller shows that its divisor is positive.
+// Whether the quotient goes on to the whole number after it: that one is nearer, or as near and the tie goes there.
+fn goes_on(d: i64, remainder: i64, tie_goes_on: bool) -> bool
+    requires { pos (nat_abs remainder) <ℤ d }
+    ensures { result ≡ (nat_lt (nat_abs d) (2 * nat_abs remainder) || (nat_eq (nat_abs d) (2 * nat_abs remainder) && tie_goes_on)) }
+{
+    let farther_by = farther_by(d, remainder);
+    (farther_by < 0) | ((farther_by == 0) & tie_goes_on)
+}
+
+// x / d rounded to the nearest whole number, by one quotient and one remainder for either sign of x. Which side is nearer can't be
+// foretold, so one test decides it, which the machine answers without a jump. The divisor is positive, as above.
 pub fn rounded(x: i64, d: i64, tie: Tie) -> i64
     requires { pos 0 <ℤ d }
     ensures { result ≡ rounded tie x (nat_abs d) }
 {
-    let q = x / d;
-    let r = x % d;
-    let size = r.unsigned_abs();
-    let left = d.unsigned_abs() - size;
-    let goes_on = (left < size) | ((left == size) & tie_goes_on(q, tie));
-    farther(q, x, goes_on)
+    let Division {
+        quotient,
+        remainder,
+    } = divided(x, d);
+    let goes_on = goes_on(d, remainder, tie_goes_on(quotient, tie));
+    next(quotient, remainder, goes_on)
 }
 
 // x / d rounded to the nearest whole number, a tie to the even one. The divisor is positive, as above.
