@@ -42,6 +42,31 @@ impl CallRules for RoundTowardZero {
     }
 }
 
+/// Its remainder is held to the half of the divisor above zero alone.
+pub struct RoundNegativesTowardZero;
+
+impl CallRules for RoundNegativesTowardZero {
+    fn half_even(&self, value: Fraction) -> i128 {
+        match value.floor() < 0 {
+            true => RoundTowardZero.half_even(value),
+            false => RightLedger.half_even(value),
+        }
+    }
+}
+
+/// Where the quotient is 0, the next whole number is 1 for a negative value too.
+pub struct NextByQuotientSign;
+
+impl CallRules for NextByQuotientSign {
+    fn half_even(&self, value: Fraction) -> i128 {
+        let rounded = RightLedger.half_even(value);
+        match RoundTowardZero.half_even(value) {
+            0 => rounded.abs(),
+            _ => rounded,
+        }
+    }
+}
+
 /// Its bases are exact to a millionth of a nano.
 pub struct BasisNotRounded;
 
@@ -84,5 +109,13 @@ mod tests {
         let toward_zero = halves(&TieTowardZeroForNegatives, [-7, -5, 5, 7]);
         assert_eq!(toward_zero, [-3, -2, 2, 4]);
         assert_eq!(halves(&RoundTowardZero, [-5, -4, 4, 5]), [-2, -2, 2, 2]);
+        let thirds = |rules: &dyn CallRules, numerators: [i128; 6]| {
+            numerators.map(|n| rules.half_even(Fraction::new(n, 3)))
+        };
+        let numerators = [-5, -3, -2, -1, 2, 5];
+        let toward_zero = thirds(&RoundNegativesTowardZero, numerators);
+        assert_eq!(toward_zero, [-1, -1, 0, 0, 1, 2]);
+        let past_zero = thirds(&NextByQuotientSign, numerators);
+        assert_eq!(past_zero, [-2, -1, 1, 0, 1, 2]);
     }
 }
