@@ -1,5 +1,7 @@
 //! Basis, rate and amount in whole numbers.
 
+use std::hint::select_unpredictable;
+
 const NANO: i64 = 1_000_000_000;
 /// The clamp in nano.
 const CLAMP: i64 = 2_000_000;
@@ -7,19 +9,15 @@ const CLAMP: i64 = 2_000_000;
 const AMOUNT_DIVISOR: i64 = 100_000_000_000;
 
 /// The quotient's nearest whole number, a tie to the even one. It is decided on the remainder, which keeps
-/// its sign. The divisor is above 0.
+/// its sign. The divisor is above 0. Neither the sign nor the step can be foretold, so that no jump is made of
+/// them.
 #[inline]
 fn half_even(dividend: i64, divisor: i64) -> i64 {
     let (quotient, remainder) = (dividend / divisor, dividend % divisor);
-    let farther_by = match remainder < 0 {
-        true => divisor + remainder + remainder,
-        false => divisor - remainder - remainder,
-    };
-    let step = i64::from(farther_by < 0 || (farther_by == 0 && quotient % 2 != 0));
-    match remainder < 0 {
-        true => quotient - step,
-        false => quotient + step,
-    }
+    let twice = remainder + remainder;
+    let farther_by = select_unpredictable(remainder < 0, divisor + twice, divisor - twice);
+    let step = i64::from((farther_by < 0) | ((farther_by == 0) & (quotient % 2 != 0)));
+    select_unpredictable(remainder < 0, quotient - step, quotient + step)
 }
 
 /// The basis in nano; the index isn't 0.

@@ -1,5 +1,5 @@
 -- Division into one quotient and one remainder.
---     one_division                   the facts of `Divides` fix the pair
+--     one_division                   the facts of `IsDivision` fix the pair
 --     quotient_size, remainder_size  the sizes of the two
 --     quotient_sign                  a quotient by a positive divisor has the value's sign
 -- Assumes nothing.
@@ -11,7 +11,7 @@ use Rattle.std.proofs.lemmas.Int.{unsigned_abs-mul, quot-rem, rem_below}
 use lib.IntN.{ℤ, pos, negsuc, neg_ℤ, nat_abs, ◌-ℤ◌, ◌*ℤ◌}
 use lib.Signed.{quot_z, rem_z, ◌<ℤ◌}
 use Rattle.integers.specs.declared.Division.{Division}
-use Rattle.integers.specs.Dividing.{Divides, OneDivision}
+use Rattle.integers.specs.Dividing.{IsDivision, OneDivision}
 use Rattle.integers.specs.Rounding.{with_sign_of}
 use Rattle.integers.proofs.Sizes.{size, abs_neg}
 use Rattle.integers.proofs.Ring.{ring, ◌⊖◌, ◌⊗◌}
@@ -21,7 +21,7 @@ remainders_close : (x r s : ℤ) → r ≡ with_sign_of x (nat_abs r) → s ≡ 
 remainders_close (pos a) r s e f = omega (arith, ints, size r, size s, size (s -ℤ r))
 remainders_close (negsuc a) r s e f = omega (arith, ints, size r, size s, size (s -ℤ r))
 
-division_is_unique : (x d : ℤ) (p q : Division) → Divides x d p → Divides x d q → p ≡ q
+division_is_unique : (x d : ℤ) (p q : Division) → IsDivision x d p → IsDivision x d q → p ≡ q
 division_is_unique x d p q P Q = same (nat_abs (p.quotient -ℤ q.quotient)) refl
   where
     -- the quotients' difference times d is how far the remainders are apart
@@ -62,7 +62,7 @@ rem_sign : (x d : ℤ) → rem_z x d ≡ with_sign_of x (nat_abs (rem_z x d))
 rem_sign (pos a) d = refl
 rem_sign (negsuc a) d = ap (λ n. neg_ℤ (pos n)) (sym (abs_rem (negsuc a) d))
 
-module _ (x d : ℤ) (p : Division) (h : pos 0 <ℤ d) (P : Divides x d p) where
+module _ (x d : ℤ) (p : Division) (h : pos 0 <ℤ d) (P : IsDivision x d p) where
   machine_is : p ≡ record { quotient = quot_z x d; remainder = rem_z x d }
   machine_is =
       let below = rem_below x d (omega (arith, lt_out _ _ h, size d)) in

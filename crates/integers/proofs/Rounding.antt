@@ -19,7 +19,7 @@ use lib.Signed.{◌<ℤ◌}
 use Rattle.integers.specs.declared.Division.{Division}
 use Rattle.integers.specs.declared.Tie.{Tie}
 use Rattle.integers.specs.declared.Tie.TheVariants.{Even, Away}
-use Rattle.integers.specs.Dividing.{Divides}
+use Rattle.integers.specs.Dividing.{IsDivision}
 use Rattle.integers.specs.Rounding.{with_sign_of, on_tie, nearest, rounded, distance, Chosen, Nearest, Characterised}
 use Rattle.integers.proofs.Sizes.{size, apart, abs_sub}
 use Rattle.integers.proofs.Dividing.{quotient_size, quotient_sign, remainder_size}
@@ -224,7 +224,7 @@ same_step (negsuc a) (pos zero) true e h = absurd (omega (arith, h refl))
 same_step (negsuc a) (pos (suc b)) g e h = absurd (omega (arith, ints))
 same_step (negsuc a) (negsuc b) g e h = refl
 
-pub from_division : (tie : Tie) (x d : ℤ) (p : Division) (g : Bool) → pos 0 <ℤ d → Divides x d p → on_tie tie (nat_abs p.quotient) ≡ nat_abs p.quotient + cond g 1 0
+pub from_division : (tie : Tie) (x d : ℤ) (p : Division) (g : Bool) → pos 0 <ℤ d → IsDivision x d p → on_tie tie (nat_abs p.quotient) ≡ nat_abs p.quotient + cond g 1 0
     → p.quotient +ℤ with_sign_of p.remainder (cond (goes (nat_abs d) (nat_abs p.remainder) g) 1 0) ≡ rounded tie x (nat_abs d)
 from_division tie x d p g h P t =
     let a = nat_abs x in

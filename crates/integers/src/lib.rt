@@ -2,7 +2,7 @@
 #![tactic(auto)]
 
 ghost use Rattle.std.specs.Prelude.{◌≡◌, true, cond, ◌&&◌, ◌||◌, nat_eq, nat_lt, ◌+◌, ◌*◌, ◌<◌, ◌^◌, pos, nat_abs, ◌+ℤ◌, ◌-ℤ◌, ◌<ℤ◌};
-ghost use Rattle.integers.specs.Dividing.{Divides};
+ghost use Rattle.integers.specs.Dividing.{IsDivision};
 ghost use Rattle.integers.specs.Rounding.{with_sign_of, on_tie, rounded, half_even};
 ghost use Rattle.integers.specs.Size.{within};
 
@@ -29,10 +29,11 @@ pub struct Division {
     pub remainder: i64,
 }
 
-// x / d, for either sign of x. A quotient by 0 has no value, so each caller shows that its divisor is positive.
+// The quotient, cut toward zero, and the remainder of x / d, for either sign of x. A quotient by 0 has no value, so each caller shows
+// that its divisor is positive.
 pub fn divided(x: i64, d: i64) -> Division
     requires { pos 0 <ℤ d }
-    ensures { Divides x d result }
+    ensures { IsDivision x d result }
 {
     Division {
         quotient: x / d,
@@ -79,7 +80,11 @@ fn goes_on(d: i64, remainder: i64, tie_goes_on: bool) -> bool
     ensures { result ≡ (nat_lt (nat_abs d) (2 * nat_abs remainder) || (nat_eq (nat_abs d) (2 * nat_abs remainder) && tie_goes_on)) }
 {
     let farther_by = farther_by(d, remainder);
-    (farther_by < 0) | ((farther_by == 0) & tie_goes_on)
+    if tie_goes_on {
+        farther_by <= 0
+    } else {
+        farther_by < 0
+    }
 }
 
 // x / d rounded to the nearest whole number, by one quotient and one remainder for either sign of x. Which side is nearer can't be
