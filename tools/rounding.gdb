@@ -7,8 +7,7 @@ break integers::rounded
 break integers::farther_by
 break integers::next
 run
-# At the end of the program `continue` fails, which ends this file.
-while 1
+while $_isvoid($_exitcode)
   set $value = $rdi
   set $divisor = $rsi
   continue

@@ -6,7 +6,7 @@
 use mathlib.Core.Path.{◌≡◌, refl, sym, ◌∙◌, ap, ap₂}
 use mathlib.Core.Bool.{Bool, true, false, cond, ◌&&◌, ◌||◌}
 use mathlib.Core.Logic.{◌⊎◌, inl, inr, ⊎_elim}
-use Prim.Native.Nat.{ℕ, zero, suc, ◌+◌, ◌*◌, ◌/◌, ◌%◌, ◌<◌, ◌≤◌}
+use Prim.Native.Nat.{ℕ, zero, suc, ◌+◌, ◌-◌, ◌*◌, ◌/◌, ◌%◌, ◌<◌, ◌≤◌}
 use native.Mathlib.Nat.{div-add-mod, mod-lt, lt_of_mul-lt-mul_right}
 use native.Mathlib.Omega.{arith}
 use lib.Dec.{ltb, eqb}
@@ -38,21 +38,20 @@ record Near (tie : Tie) (a d n : ℕ) : Type 0 where
   low_tie : 2 * (n * d) ≡ 2 * a + d → Picked tie a d n
   high_tie : 2 * a ≡ 2 * (n * d) + d → Picked tie a d n
 
--- what 0 and 1 both have, q % 2 has
-by_parity : (q : ℕ) (P : ℕ → Type 0) → (q % 2 ≡ 0 → P 0) → (q % 2 ≡ 1 → P 1) → P (q % 2)
-by_parity q P f g = go (q % 2) refl
+-- at a tie, by the rule: one of the two whole numbers beside it is even
+near_even : (a d q r n : ℕ) → 0 < d → d * q + r ≡ a → 2 * r ≡ d → n % 2 ≡ 0 → q ≤ n → n ≤ q + 1 → Near Even a d n
+near_even a d q r n p e t v l u = go (n - q) refl
   where
-    go : (k : ℕ) → q % 2 ≡ k → P k
-    go zero e = f e
-    go (suc zero) e = g e
-    go (suc (suc k)) e = absurd (omega arith)
+    go : (b : ℕ) → n - q ≡ b → Near Even a d n
+    go zero f =
+        let g : n * d ≡ q * d = ap (λ t. t * d) (omega arith) in
+        record { low = omega arith; high = omega arith; low_tie = λ z. absurd (omega arith); high_tie = λ z. v }
+    go (suc b) f =
+        let g : n * d ≡ (q + 1) * d = ap (λ t. t * d) (omega arith) in
+        record { low = omega arith; high = omega arith; low_tie = λ z. v; high_tie = λ z. absurd (omega arith) }
 
--- at a tie, by the rule
 near_tie : (tie : Tie) (a d q r : ℕ) → 0 < d → d * q + r ≡ a → 2 * r ≡ d → Near tie a d (on_tie tie q)
-near_tie Even a d q r p e t =
-    by_parity q (λ b. Near Even a d (q + b))
-    (λ v. record { low = omega arith; high = omega arith; low_tie = λ z. absurd (omega arith); high_tie = λ z. omega arith })
-    (λ v. record { low = omega arith; high = omega arith; low_tie = λ z. omega arith; high_tie = λ z. absurd (omega arith) })
+near_tie Even a d q r p e t = near_even a d q r _ p e t (omega arith) (omega arith) (omega arith)
 near_tie Away a d q r p e t = record { low = omega arith; high = omega arith; low_tie = λ z. omega arith; high_tie = λ z. absurd (omega arith) }
 
 nearest_near : (tie : Tie) (a d : ℕ) → 0 < d → Near tie a d (nearest tie a d)
