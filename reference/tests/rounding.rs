@@ -29,5 +29,5 @@ fn the_shared_table() {
         assert_eq!(away(value, divisor), farther, "{line}");
         rows += 1;
     }
-    assert_eq!(rows, 53);
+    assert_eq!(rows, 56);
 }

@@ -1,10 +1,13 @@
 -- Division into one quotient and one remainder.
 --     one_division                   the facts of `IsDivision` fix the pair
+--     machine_is_division            what the machine gives is such a pair
 --     quotient_size, remainder_size  the sizes of the two
 --     quotient_sign                  a quotient by a positive divisor has the value's sign
+--     quotient_half                  a quotient that may go on is at most half of the value
 -- Assumes nothing.
 use mathlib.Core.Path.{◌≡◌, refl, sym, ◌∙◌, ap, ap₂}
 use Prim.Native.Nat.{ℕ, zero, suc, ◌*◌, ◌/◌, ◌%◌, ◌<◌, ◌≤◌, max}
+use native.Mathlib.Nat.{div-add-mod, mul-le-mul_right}
 use native.Mathlib.Omega.{arith}
 use borrow.Author.Differences.{ints, lt_out}
 use Rattle.std.proofs.lemmas.Int.{unsigned_abs-mul, quot-rem, rem_below}
@@ -13,7 +16,7 @@ use lib.Signed.{quot_z, rem_z, ◌<ℤ◌}
 use Rattle.integers.specs.declared.Division.{Division}
 use Rattle.integers.specs.Dividing.{IsDivision, OneDivision}
 use Rattle.integers.specs.Rounding.{with_sign_of}
-use Rattle.integers.proofs.Sizes.{size, abs_neg}
+use Rattle.integers.proofs.Sizes.{size, abs_neg, signed_size}
 use Rattle.integers.proofs.Ring.{ring, ◌⊖◌, ◌⊗◌}
 
 -- two remainders of one value are no farther apart than the larger of them is from 0
@@ -41,13 +44,7 @@ division_is_unique x d p q P Q = same (nat_abs (p.quotient -ℤ q.quotient)) ref
 pub one_division : OneDivision
 one_division = record { division_is_unique = division_is_unique }
 
--- ---- the machine's pair is one, so it is the one
-
-abs_quot : (x d : ℤ) → nat_abs (quot_z x d) ≡ nat_abs x / nat_abs d
-abs_quot (pos a) (pos b) = refl
-abs_quot (pos a) (negsuc b) = abs_neg (pos (a / suc b))
-abs_quot (negsuc a) (pos b) = abs_neg (pos (suc a / b))
-abs_quot (negsuc a) (negsuc b) = refl
+-- ---- the machine's quotient and remainder are such a pair, so that there is no other
 
 abs_rem : (x d : ℤ) → nat_abs (rem_z x d) ≡ nat_abs x % nat_abs d
 abs_rem (pos a) d = refl
@@ -62,17 +59,26 @@ rem_sign : (x d : ℤ) → rem_z x d ≡ with_sign_of x (nat_abs (rem_z x d))
 rem_sign (pos a) d = refl
 rem_sign (negsuc a) d = ap (λ n. neg_ℤ (pos n)) (sym (abs_rem (negsuc a) d))
 
+pub machine_is_division : (x d : ℤ) → pos 0 <ℤ d → IsDivision x d (record { quotient = quot_z x d; remainder = rem_z x d })
+machine_is_division x d h =
+    let below = rem_below x d (omega (arith, lt_out _ _ h, size d)) in
+    record { whole = quot-rem x d; smaller = below; sign = rem_sign x d }
+
 module _ (x d : ℤ) (p : Division) (h : pos 0 <ℤ d) (P : IsDivision x d p) where
   machine_is : p ≡ record { quotient = quot_z x d; remainder = rem_z x d }
-  machine_is =
-      let below = rem_below x d (omega (arith, lt_out _ _ h, size d)) in
-      division_is_unique x d p _ P (record { whole = quot-rem x d; smaller = below; sign = rem_sign x d })
+  machine_is = division_is_unique x d p _ P (machine_is_division x d h)
+
+  pub quotient_sign : p.quotient ≡ with_sign_of x (nat_abs x / nat_abs d)
+  quotient_sign = ap (λ p. p.quotient) machine_is ∙ quot_sign x d h
 
   pub quotient_size : nat_abs p.quotient ≡ nat_abs x / nat_abs d
-  quotient_size = ap (λ p. nat_abs p.quotient) machine_is ∙ abs_quot x d
+  quotient_size = ap nat_abs quotient_sign ∙ signed_size x (nat_abs x / nat_abs d)
 
   pub remainder_size : nat_abs p.remainder ≡ nat_abs x % nat_abs d
   remainder_size = ap (λ p. nat_abs p.remainder) machine_is ∙ abs_rem x d
 
-  pub quotient_sign : p.quotient ≡ with_sign_of x (nat_abs x / nat_abs d)
-  quotient_sign = ap (λ p. p.quotient) machine_is ∙ quot_sign x d h
+-- a divisor that a remainder is at least half of is at least 2, so that the quotient is at most half of the value
+pub quotient_half : (x d : ℤ) (p : Division) → pos 0 <ℤ d → IsDivision x d p → nat_abs d ≤ 2 * nat_abs p.remainder → 2 * nat_abs p.quotient ≤ nat_abs x
+quotient_half x d p h P half =
+    let two : 2 ≤ nat_abs d = omega (arith, P.smaller) in
+    omega (arith, quotient_size x d p h P, remainder_size x d p h P, div-add-mod (nat_abs x) (nat_abs d), mul-le-mul_right (nat_abs x / nat_abs d) two)

@@ -21,7 +21,7 @@ use Rattle.integers.specs.declared.Tie.{Tie}
 use Rattle.integers.specs.declared.Tie.TheVariants.{Even, Away}
 use Rattle.integers.specs.Dividing.{IsDivision}
 use Rattle.integers.specs.Rounding.{with_sign_of, on_tie, nearest, rounded, distance, Chosen, Nearest, Characterised}
-use Rattle.integers.proofs.Sizes.{size, apart, abs_sub}
+use Rattle.integers.proofs.Sizes.{size, apart, abs_sub, signed_size}
 use Rattle.integers.proofs.Dividing.{quotient_size, quotient_sign, remainder_size}
 use Rattle.integers.proofs.Ring.{ring, ◌⊖◌, ◌⊗◌}
 
@@ -38,7 +38,7 @@ record Near (tie : Tie) (a d n : ℕ) : Type 0 where
   low_tie : 2 * (n * d) ≡ 2 * a + d → Picked tie a d n
   high_tie : 2 * a ≡ 2 * (n * d) + d → Picked tie a d n
 
--- at a tie, by the rule: one of the two whole numbers beside it is even
+-- at a tie between q and q + 1, the even one is near
 near_even : (a d q r n : ℕ) → 0 < d → d * q + r ≡ a → 2 * r ≡ d → n % 2 ≡ 0 → q ≤ n → n ≤ q + 1 → Near Even a d n
 near_even a d q r n p e t v l u = go (n - q) refl
   where
@@ -50,6 +50,7 @@ near_even a d q r n p e t v l u = go (n - q) refl
         let g : n * d ≡ (q + 1) * d = ap (λ t. t * d) (omega arith) in
         record { low = omega arith; high = omega arith; low_tie = λ z. v; high_tie = λ z. absurd (omega arith) }
 
+-- at a tie, the one that the rule picks is near
 near_tie : (tie : Tie) (a d q r : ℕ) → 0 < d → d * q + r ≡ a → 2 * r ≡ d → Near tie a d (on_tie tie q)
 near_tie Even a d q r p e t = near_even a d q r _ p e t (omega arith) (omega arith) (omega arith)
 near_tie Away a d q r p e t = record { low = omega arith; high = omega arith; low_tie = λ z. omega arith; high_tie = λ z. absurd (omega arith) }
@@ -85,10 +86,6 @@ nearest_ge tie a d m h b =
 sides : (z : ℤ) → (down z ≡ 0) ⊎ (up z ≡ 0)
 sides (pos n) = inl refl
 sides (negsuc n) = inr refl
-
-signed_size : (x : ℤ) (n : ℕ) → nat_abs (with_sign_of x n) ≡ n
-signed_size (pos a) n = refl
-signed_size (negsuc a) n = omega (arith, size (neg_ℤ (pos n)), neg_is (pos n))
 
 pub rounded_le : (tie : Tie) (x : ℤ) (d m : ℕ) → 0 < d → nat_abs x ≤ m * d → nat_abs (rounded tie x d) ≤ m
 rounded_le tie x d m h b = omega (arith, signed_size x (nearest tie (nat_abs x) d), nearest_le tie (nat_abs x) d m h b)
@@ -201,11 +198,10 @@ characterised = record { rounded_is_nearest = rounded_is_nearest; nearest_is_uni
 
 -- ---- from one quotient and one remainder
 
--- whether the quotient of a division goes on, by the divisor and twice the remainder
+-- whether a quotient goes on, by the sizes of the divisor and the remainder, and by whether a tie goes on
 abbrev pub goes : ℕ → ℕ → Bool → Bool
 goes d r g = ltb d (2 * r) || (eqb d (2 * r) && g)
 
--- the quotient goes on where twice the remainder is above the divisor, or is the divisor and the tie goes on, as g says
 nearest_by : (tie : Tie) (a d : ℕ) (g : Bool) → on_tie tie (a / d) ≡ a / d + cond g 1 0 → nearest tie a d ≡ a / d + cond (goes d (a % d) g) 1 0
 unfolding nearest
 nearest_by tie a d g t = grind (arith, t)
@@ -214,7 +210,7 @@ signed_sum : (x : ℤ) (k s : ℕ) → with_sign_of x (k + s) ≡ with_sign_of x
 signed_sum (pos a) k s = refl
 signed_sum (negsuc a) k s = neg_ℤ-+ℤ (pos k) (pos s)
 
--- a remainder that is not 0 has the value's sign
+-- where there is a step, one on the remainder's side is one on the value's
 same_step : (x r : ℤ) (g : Bool) → r ≡ with_sign_of x (nat_abs r) → (g ≡ true → 0 < nat_abs r) → with_sign_of r (cond g 1 0) ≡ with_sign_of x (cond g 1 0)
 same_step (pos a) (pos b) g e h = refl
 same_step (pos a) (negsuc b) g e h = absurd (omega (arith, ints))

@@ -1,6 +1,7 @@
 -- Sizes (`nat_abs`) over the kit's `borrow.Author.Differences`, by whose `up` and `down` `omega` decides sums, the order and fits.
 --     size z     nat_abs z is up z + down z; `apart z`: one of the two is 0. The kit's `abs_is` says both at once, by differences of naturals, where `omega` splits into cases
 --     abs_neg, abs_add, abs_sub, abs_mul_le     a result's size, from its operands'
+--     signed_size     n with a sign has the size n
 --     not_above, not_below     the tests of a limit
 -- Assumes nothing.
 use mathlib.Core.Path.{◌≡◌, refl, sym, ◌∙◌}
@@ -13,6 +14,7 @@ use lib.Dec.{leb, leb-suc-suc}
 use lib.IntN.{ℤ, pos, negsuc, neg_ℤ, nat_abs, ◌+ℤ◌, ◌-ℤ◌, ◌*ℤ◌}
 use lib.Signed.{le_z}
 use Rattle.std.proofs.lemmas.Int.{unsigned_abs-mul}
+use Rattle.integers.specs.Rounding.{with_sign_of}
 
 pub size : (z : ℤ) → nat_abs z ≡ up z + down z
 size (pos n) = omega arith
@@ -30,6 +32,10 @@ abs_add x y = omega (arith, size x, size y, size (x +ℤ y), sum_is_lem x y, apa
 
 pub abs_sub : (x y : ℤ) → nat_abs (x -ℤ y) ≤ nat_abs x + nat_abs y
 abs_sub x y = omega (arith, abs_add x (neg_ℤ y), abs_neg y)
+
+pub signed_size : (x : ℤ) (n : ℕ) → nat_abs (with_sign_of x n) ≡ n
+signed_size (pos a) n = refl
+signed_size (negsuc a) n = omega (arith, size (neg_ℤ (pos n)), neg_is (pos n))
 
 -- a product's size from its factors' bounds
 pub abs_mul_le : (x y : ℤ) {m n : ℕ} → nat_abs x ≤ m → nat_abs y ≤ n → nat_abs (x *ℤ y) ≤ m * n

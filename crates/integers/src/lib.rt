@@ -29,8 +29,8 @@ pub struct Division {
     pub remainder: i64,
 }
 
-// The quotient, cut toward zero, and the remainder of x / d, for either sign of x. A quotient by 0 has no value, so each caller shows
-// that its divisor is positive.
+// The quotient, truncated toward zero, and the remainder of x / d, for either sign of x. A quotient by 0 has no value, so each caller
+// shows that its divisor is positive.
 pub fn divided(x: i64, d: i64) -> Division
     requires { pos 0 <ℤ d }
     ensures { IsDivision x d result }
@@ -41,9 +41,9 @@ pub fn divided(x: i64, d: i64) -> Division
     }
 }
 
-// The whole number after q on the remainder's side, where the quotient goes on to it, else q. There has to be one where it does: q is
-// then not the largest or the least. A step of 0 or 1 is added in any case, so that the machine has nothing to foretell.
-fn next(q: i64, remainder: i64, goes_on: bool) -> i64
+// The quotient q, or where it goes on, the whole number after it on the remainder's side, for which |q| has to be below the largest
+// number. A step of 0 or 1 is added or subtracted either way, so that the compiler makes no branch of `goes_on`.
+fn with_step(q: i64, remainder: i64, goes_on: bool) -> i64
     requires { goes_on ≡ true → nat_abs q + 1 < 2 ^ 63 }
     ensures { result ≡ q +ℤ with_sign_of remainder (cond goes_on 1 0) }
 {
@@ -52,7 +52,8 @@ fn next(q: i64, remainder: i64, goes_on: bool) -> i64
 }
 
 // By how much the whole number after the quotient lies farther from x / d than the quotient does, times d: above 0 the quotient is
-// nearest, 0 is the tie, below 0 the number after it is nearest. The remainder keeps its sign: it is added below 0, and else subtracted.
+// nearer, 0 is the tie, below 0 the number after it is nearer. The remainder keeps its sign: it is added where it is below 0, and
+// subtracted otherwise.
 fn farther_by(d: i64, remainder: i64) -> i64
     requires { pos (nat_abs remainder) <ℤ d }
     ensures { result ≡ d -ℤ pos (2 * nat_abs remainder) }
@@ -74,21 +75,17 @@ fn tie_goes_on(q: i64, tie: Tie) -> bool
     }
 }
 
-// Whether the quotient goes on to the whole number after it: that one is nearer, or as near and the tie goes there.
+// Whether the quotient goes on to the whole number after it: that one is nearer, or as near and the tie goes there. Which of the two is
+// nearer can't be predicted, so this is written to compile to one comparison and no branch.
 fn goes_on(d: i64, remainder: i64, tie_goes_on: bool) -> bool
     requires { pos (nat_abs remainder) <ℤ d }
     ensures { result ≡ (nat_lt (nat_abs d) (2 * nat_abs remainder) || (nat_eq (nat_abs d) (2 * nat_abs remainder) && tie_goes_on)) }
 {
-    let farther_by = farther_by(d, remainder);
-    if tie_goes_on {
-        farther_by <= 0
-    } else {
-        farther_by < 0
-    }
+    let by = farther_by(d, remainder);
+    if tie_goes_on { by <= 0 } else { by < 0 }
 }
 
-// x / d rounded to the nearest whole number, by one quotient and one remainder for either sign of x. Which side is nearer can't be
-// foretold, so one test decides it, which the machine answers without a jump. The divisor is positive, as above.
+// x / d rounded to the nearest whole number, by one quotient and one remainder for either sign of x. The divisor is positive, as above.
 pub fn rounded(x: i64, d: i64, tie: Tie) -> i64
     requires { pos 0 <ℤ d }
     ensures { result ≡ rounded tie x (nat_abs d) }
@@ -97,8 +94,11 @@ pub fn rounded(x: i64, d: i64, tie: Tie) -> i64
         quotient,
         remainder,
     } = divided(x, d);
-    let goes_on = goes_on(d, remainder, tie_goes_on(quotient, tie));
-    next(quotient, remainder, goes_on)
+    with_step(
+        quotient,
+        remainder,
+        goes_on(d, remainder, tie_goes_on(quotient, tie)),
+    )
 }
 
 // x / d rounded to the nearest whole number, a tie to the even one. The divisor is positive, as above.

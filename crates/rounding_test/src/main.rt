@@ -1,12 +1,12 @@
-// IsDivision and rounds the rows of tests/rounding/table.txt, in that file's order. The printout is worked out by exact
-// fractions: its lines are the rows of that file, against which the reference's tests divide too.
+// Divides and rounds the values of tests/rounding/table.txt, in that file's order. It prints that file's rows, which are worked out by
+// exact fractions; the reference's tests check the same rows.
 #![tactic(auto)]
 
 use integers::Tie;
 use std::io;
 
 // A value and its divisor.
-const ROWS: [(i64, i64); 53] = [
+const ROWS: [(i64, i64); 56] = [
     (0, 1),
     (0, 7),
     (6, 3),
@@ -44,12 +44,15 @@ const ROWS: [(i64, i64); 53] = [
     (i64::MAX, 2),
     (i64::MIN, 2),
     (-9_223_372_036_854_775_807, 2),
+    (9_223_372_036_854_775_805, 2),
+    (-9_223_372_036_854_775_805, 2),
     (i64::MAX, 3),
     (i64::MIN, 3),
     (i64::MAX, i64::MAX),
     (i64::MIN, i64::MAX),
     (-9_223_372_036_854_775_807, i64::MAX),
     (9_223_372_036_854_775_806, i64::MAX),
+    (-9_223_372_036_854_775_806, i64::MAX),
     (4_611_686_018_427_387_903, i64::MAX),
     (4_611_686_018_427_387_904, i64::MAX),
     (-4_611_686_018_427_387_903, i64::MAX),
