@@ -5,7 +5,7 @@ set pagination off
 set confirm off
 break integers::rounded
 break integers::farther_by
-break integers::next
+break integers::with_step
 run
 while $_isvoid($_exitcode)
   set $value = $rdi

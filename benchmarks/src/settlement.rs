@@ -9,8 +9,8 @@ const CLAMP: i64 = 2_000_000;
 const AMOUNT_DIVISOR: i64 = 100_000_000_000;
 
 /// The quotient's nearest whole number, a tie to the even one. It is decided on the remainder, which keeps
-/// its sign. The divisor is above 0. Neither the sign nor the step can be foretold, so that no jump is made of
-/// them.
+/// its sign. The divisor is above 0 and at most 2^62, so that twice the remainder fits. Neither sign nor step is
+/// predictable, so neither becomes a branch.
 #[inline]
 fn half_even(dividend: i64, divisor: i64) -> i64 {
     let (quotient, remainder) = (dividend / divisor, dividend % divisor);

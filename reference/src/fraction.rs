@@ -21,6 +21,17 @@ impl Fraction {
     }
 
     #[inline]
+    pub fn numerator(self) -> i128 {
+        self.numerator
+    }
+
+    /// As it was given: a fraction is not reduced.
+    #[inline]
+    pub fn denominator(self) -> i128 {
+        self.denominator
+    }
+
+    #[inline]
     pub fn whole(number: i128) -> Self {
         Fraction::new(number, 1)
     }

@@ -52,11 +52,16 @@ const fn in_files(name: &'static str, files: &'static dyn FileRules) -> WrongLed
 }
 
 /// A static, so that their rules are compiled here alone.
-pub static ALL: [WrongLedger; 96] = [
+pub static ALL: [WrongLedger; 98] = [
     // Rounding.
     in_calls("tie-up", &TieUp),
     in_calls("tie-away-from-zero", &TieAwayFromZero),
     in_calls("tie-toward-zero-for-negatives", &TieTowardZeroForNegatives),
+    in_calls(
+        "tie-away-from-zero-for-negatives",
+        &TieAwayFromZeroForNegatives,
+    ),
+    in_calls("half-of-divisor-cut", &HalfOfDivisorCut),
     in_calls("round-toward-zero", &RoundTowardZero),
     in_calls("round-negatives-toward-zero", &RoundNegativesTowardZero),
     in_calls("next-by-quotient-sign", &NextByQuotientSign),

@@ -22,8 +22,8 @@ with_step-requires c =
     let r : SFits w64 p.remainder = search rules in
     let P : IsDivision x d p = rw (to_z-of_z c.ranges.x, to_z-of_z c.ranges.d) at c.divided-quotient.ensures in
     rw (to_z-of_z q) (λ e.
-      let half : nat_abs d ≤ 2 * nat_abs p.remainder = grind (arith, to_z-of_z, c.goes_on.ensures) in
-      omega (arith, quotient_half x d p c.requires P half, size x, apart x, fits_out w64 _ c.ranges.x))
+    let half : nat_abs d ≤ 2 * nat_abs p.remainder = grind (arith, to_z-of_z, c.goes_on.ensures) in
+    omega (arith, quotient_half x d p c.requires P half, size x, apart x, fits_out w64 _ c.ranges.x))
 
 pub returns : goal.returns
 returns c = grind (arith, to_z-of_z, from_division)

@@ -31,6 +31,32 @@ impl CallRules for TieTowardZeroForNegatives {
     }
 }
 
+pub struct TieAwayFromZeroForNegatives;
+
+impl CallRules for TieAwayFromZeroForNegatives {
+    fn tie(&self, below: i128) -> i128 {
+        match below < 0 {
+            true => below,
+            false => RightLedger.tie(below),
+        }
+    }
+}
+
+/// It compares the remainder with half of the divisor, which it cuts: 4 / 3 is a tie.
+pub struct HalfOfDivisorCut;
+
+impl CallRules for HalfOfDivisorCut {
+    fn half_even(&self, value: Fraction) -> i128 {
+        let rounded = RightLedger.half_even(value);
+        let quotient = RoundTowardZero.half_even(value);
+        let remainder = value.numerator() - quotient * value.denominator();
+        match remainder != 0 && remainder.abs() == value.denominator() / 2 {
+            true => quotient + remainder.signum() * (quotient % 2).abs(),
+            false => rounded,
+        }
+    }
+}
+
 pub struct RoundTowardZero;
 
 impl CallRules for RoundTowardZero {
@@ -42,7 +68,7 @@ impl CallRules for RoundTowardZero {
     }
 }
 
-/// Its remainder is held to the half of the divisor above zero alone.
+/// A value below zero goes toward zero: only a remainder above zero is compared with half of the divisor.
 pub struct RoundNegativesTowardZero;
 
 impl CallRules for RoundNegativesTowardZero {
@@ -108,6 +134,8 @@ mod tests {
         assert_eq!(halves(&TieAwayFromZero, [-5, -1, 1, 5]), [-3, -1, 1, 3]);
         let toward_zero = halves(&TieTowardZeroForNegatives, [-7, -5, 5, 7]);
         assert_eq!(toward_zero, [-3, -2, 2, 4]);
+        let away = halves(&TieAwayFromZeroForNegatives, [-7, -5, -1, 1]);
+        assert_eq!(away, [-4, -3, -1, 0]);
         assert_eq!(halves(&RoundTowardZero, [-5, -4, 4, 5]), [-2, -2, 2, 2]);
         let thirds = |rules: &dyn CallRules, numerators: [i128; 6]| {
             numerators.map(|n| rules.half_even(Fraction::new(n, 3)))
@@ -115,6 +143,8 @@ mod tests {
         let numerators = [-5, -3, -2, -1, 2, 5];
         let toward_zero = thirds(&RoundNegativesTowardZero, numerators);
         assert_eq!(toward_zero, [-1, -1, 0, 0, 1, 2]);
+        let cut = thirds(&HalfOfDivisorCut, [-5, -4, -1, 1, 4, 8]);
+        assert_eq!(cut, [-2, -2, 0, 0, 2, 3]);
         let past_zero = thirds(&NextByQuotientSign, numerators);
         assert_eq!(past_zero, [-2, -1, 1, 0, 1, 2]);
     }
