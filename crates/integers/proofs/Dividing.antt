@@ -32,7 +32,7 @@ division_is_unique x d p q P Q = same (nat_abs (p.quotient -ℤ q.quotient)) ref
     close =
         let product = ring 3 (λ p q d. (p ⊖ q) ⊗ d) (λ p q d. p ⊗ d ⊖ q ⊗ d) refl p.quotient q.quotient d in
         let apart : p.quotient *ℤ d -ℤ q.quotient *ℤ d ≡ q.remainder -ℤ p.remainder = omega (arith, ints, P.whole, Q.whole) in
-        omega (arith, unsigned_abs-mul (p.quotient -ℤ q.quotient) d, ap nat_abs (product ∙ apart), remainders_close x p.remainder q.remainder P.sign Q.sign, P.smaller, Q.smaller)
+        omega (arith, unsigned_abs-mul (p.quotient -ℤ q.quotient) d, ap nat_abs (product ∙ apart), remainders_close _ p.remainder q.remainder P.sign Q.sign, P.smaller, Q.smaller)
 
     same : (k : ℕ) → nat_abs (p.quotient -ℤ q.quotient) ≡ k → p ≡ q
     same zero e =
