@@ -15,8 +15,9 @@ pub mod tag {
     pub const FIX: u8 = 6;
     pub const CLOSE: u8 = 7;
     pub const LENGTH_OF_DAY: u8 = 8;
+    pub const TIMED_QUOTE: u8 = 9;
 
-    pub const KNOWN: [u8; 8] = [
+    pub const KNOWN: [u8; 9] = [
         TRADE,
         QUOTE,
         MINUTE_END,
@@ -25,6 +26,7 @@ pub mod tag {
         FIX,
         CLOSE,
         LENGTH_OF_DAY,
+        TIMED_QUOTE,
     ];
 }
 
@@ -43,6 +45,8 @@ pub mod length {
     pub const CLOSE: u8 = 0;
     /// Minutes 2.
     pub const LENGTH_OF_DAY: u8 = 2;
+    /// Milliseconds 2, bid 4, offer 4.
+    pub const TIMED_QUOTE: u8 = 10;
 }
 
 /// "Kind 0 simple, 1 spread against spread, 2 block."
@@ -72,6 +76,7 @@ pub fn body_length(tag: u8) -> Option<usize> {
         tag::FIX => length::FIX,
         tag::CLOSE => length::CLOSE,
         tag::LENGTH_OF_DAY => length::LENGTH_OF_DAY,
+        tag::TIMED_QUOTE => length::TIMED_QUOTE,
         _ => return None,
     };
     Some(length.into())
@@ -100,6 +105,7 @@ mod tests {
             (6, 4),
             (7, 0),
             (8, 2),
+            (9, 10),
         ];
         assert_eq!(tag::KNOWN, lengths.map(|(tag, _)| tag));
         for tag in 0..=u8::MAX {

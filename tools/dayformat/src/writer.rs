@@ -61,6 +61,14 @@ impl Writer {
     pub fn length_of_day(&mut self, minutes: u16) -> &mut Self {
         self.record(tag::LENGTH_OF_DAY, &minutes.to_be_bytes())
     }
+
+    /// The time is milliseconds into the minute.
+    pub fn timed_quote(&mut self, time: u16, bid: u32, offer: u32) -> &mut Self {
+        let mut body = time.to_be_bytes().to_vec();
+        body.extend(bid.to_be_bytes());
+        body.extend(offer.to_be_bytes());
+        self.record(tag::TIMED_QUOTE, &body)
+    }
 }
 
 #[cfg(test)]
@@ -74,6 +82,7 @@ mod tests {
         file.trade((3, 7), 0, 12, 200_200).quote(200_100, 200_300);
         file.minute_ends(1, 200_000).halt().resume().fix(0).close();
         file.length_of_day(1_140);
+        file.timed_quote(30_000, 200_100, 200_300);
         let (mut rest, mut tags) = (&file.bytes[..], Vec::new());
         while let Some((tag, length, after)) = header(rest) {
             assert_eq!(body_length(tag), Some(length));
