@@ -2,7 +2,7 @@
 use Rattle.std.specs.Prelude.{ℕ, ◌+◌, ◌*◌, List, get_or}
 use Rattle.calls.specs.declared.Call.TheVariants as call
 use Rattle.funding.specs.declared.market.Market.{Market}
-use Rattle.calls.specs.declared.{Trade.Trade, Call.Call}
+use Rattle.calls.specs.declared.{Trade.Trade, TimedQuote.TimedQuote, Call.Call}
 use Rattle.calls.specs.Trade.{kind_of}
 use Rattle.tags.specs.declared.Tag.{Tag}
 use Rattle.tags.specs.declared.Tag.TheVariants as tag
@@ -18,7 +18,7 @@ two_bytes file at = byte_at file at * 256 + byte_at file (at + 1)
 abbrev pub four_bytes : List ℕ → ℕ → ℕ
 four_bytes file at = two_bytes file at * 65536 + two_bytes file (at + 2)
 
--- the trade, the quote and the call whose body starts at a place
+-- the trade, the quotes and the call whose body starts at a place
 abbrev pub trade_at : List ℕ → ℕ → Trade
 trade_at file body = record {
   buyer = byte_at file body;
@@ -31,6 +31,9 @@ trade_at file body = record {
 abbrev pub quote_at : List ℕ → ℕ → Market
 quote_at file body = record { bid = four_bytes file body; offer = four_bytes file (body + 4) }
 
+abbrev pub timed_quote_at : List ℕ → ℕ → TimedQuote
+timed_quote_at file body = record { time = two_bytes file body; market = quote_at file (body + 2) }
+
 abbrev pub call_of : List ℕ → Tag → ℕ → Call
 call_of file tag.Trade body = call.Trade (trade_at file body)
 call_of file tag.Quote body = call.Quote (quote_at file body)
@@ -40,3 +43,4 @@ call_of file tag.Resume body = call.Resume
 call_of file tag.Fix body = call.Fix (four_bytes file body)
 call_of file tag.Close body = call.Close
 call_of file tag.DayLength body = call.DayLength (two_bytes file body)
+call_of file tag.TimedQuote body = call.TimedQuote (timed_quote_at file body)

@@ -3,9 +3,9 @@
 
 ghost use Rattle.std.specs.Prelude.{◌≡◌, ◌+◌, ◌≤◌, length};
 ghost use Rattle.tags.specs.Tags.{body_length};
-ghost use Rattle.bodies.specs.Body.{two_bytes, four_bytes, trade_at, quote_at, call_of};
+ghost use Rattle.bodies.specs.Body.{two_bytes, four_bytes, trade_at, quote_at, timed_quote_at, call_of};
 
-use calls::{Call, Kind, Trade};
+use calls::{Call, Kind, TimedQuote, Trade};
 use funding::market::Market;
 use tags::Tag;
 
@@ -50,6 +50,16 @@ fn quote_at(file: &[u8], body: usize) -> Market
     }
 }
 
+fn timed_quote_at(file: &[u8], body: usize) -> TimedQuote
+    requires { body + 10 ≤ length file.now }
+    ensures { result ≡ timed_quote_at file.now body }
+{
+    TimedQuote {
+        time: u32::from(two_bytes(file, body)),
+        market: quote_at(file, body + 2),
+    }
+}
+
 // The call whose body, of its tag's length, starts at `body`.
 pub fn call_of(file: &[u8], tag: Tag, body: usize) -> Call
     requires { body + body_length tag ≤ length file.now }
@@ -64,5 +74,6 @@ pub fn call_of(file: &[u8], tag: Tag, body: usize) -> Call
         Tag::Fix => Call::Fix(four_bytes(file, body)),
         Tag::Close => Call::Close,
         Tag::DayLength => Call::DayLength(u32::from(two_bytes(file, body))),
+        Tag::TimedQuote => Call::TimedQuote(timed_quote_at(file, body)),
     }
 }

@@ -1,3 +1,4 @@
 pub mod Calls
 pub mod Length
+pub mod Time
 pub mod Trade

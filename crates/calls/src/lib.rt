@@ -1,4 +1,4 @@
-// The calls of a trade date, with the trades and lengths of day that they bring.
+// The calls of a trade date, with the trades, lengths of day and timed quotes that they bring.
 #![tactic(auto)]
 
 ghost use Rattle.std.specs.Prelude.{◌≡◌};
@@ -15,6 +15,10 @@ pub const LEAST_BLOCK: u32 = 250;
 pub const FULL_DAY: u32 = MOST_MINUTES;
 
 pub const SHORT_DAY: u32 = 1_140;
+// The milliseconds of a minute, and the latest time that a quote can give.
+pub const MINUTE_LENGTH: u32 = 60_000;
+
+pub const MOST_TIME: u32 = 59_999;
 
 // The kind of a trade.
 #[derive(Clone, Copy, Debug, PartialEq, Eq)]
@@ -51,6 +55,13 @@ pub struct Trade {
     pub price: u32,
 }
 
+// A quote with its time, in milliseconds into the minute.
+#[derive(Clone, Copy)]
+pub struct TimedQuote {
+    pub time: u32,
+    pub market: Market,
+}
+
 #[derive(Clone, Copy)]
 pub enum Call {
     Quote(Market),
@@ -63,6 +74,7 @@ pub enum Call {
     Close,
     // the minutes of the day
     DayLength(u32),
+    TimedQuote(TimedQuote),
 }
 
 pub fn is_length(minutes: u32) -> bool

@@ -15,16 +15,17 @@ use Rattle.integers.specs.Size.{within}
 use Rattle.std.proofs.lemmas.Bool.{and_parts}
 use Rattle.integers.proofs.Tests.{tests, ◌and◌, each}
 use Rattle.settlement.specs.declared.FinalMinute.{FinalMinute}
-use Rattle.prices.specs.Price.{least_price, largest_price, none_or_price, none_or_ticked}
+use Rattle.prices.specs.Price.{none_or_price, none_or_ticked, is_price_sum}
 use Rattle.funding.specs.Minute.{weighted_limit, most_minutes}
-use Rattle.prices.proofs.Prices.{ticked_price}
+use Rattle.prices.proofs.Prices.{ticked_price, PriceSum, price_sum, is_price_sum-held}
 use Rattle.funding.specs.declared.market.Market.{Market}
 use Rattle.funding.specs.Market.{two_sided, uncrossed, market_holds, minute_market_holds}
 use Rattle.calls.specs.Length.{is_length}
+use Rattle.calls.specs.Time.{most_time}
 use Rattle.calls.proofs.Length.{length_most}
 use Rattle.day.specs.declared.Day.{Day}
 use Rattle.day.specs.Day.{day_length, empty_day}
-use Rattle.day.specs.Limits.{minutes_hold, markets_hold, most_amount, prices_hold, fix_holds, start_holds, final_holds, day_holds}
+use Rattle.day.specs.Limits.{minutes_hold, markets_hold, most_amount, prices_hold, fix_holds, start_holds, final_holds, most_total, timing_holds, day_holds}
 
 -- ---- what is held
 
@@ -40,25 +41,30 @@ pub record HeldDay (d : Day) : Type 0 where
   pub amount : nat_abs d.fixed.amount ≤ most_amount
   pub fix : fix_holds d ≡ true
   pub start : start_holds d ≡ true
+  pub latest : d.timing.latest ≤ most_time
+  pub total : d.timing.midpoints.total ≤ most_total d
+  pub sum : PriceSum d.timing.midpoints.total d.timing.midpoints.sum
 
 -- the final minute's trades, where the accounts' v add up to so much
 pub record HeldFinal (m : FinalMinute) (volume : ℕ) : Type 0 where
   pub contracts : 2 * m.contracts ≤ volume
-  pub low : least_price * m.contracts ≤ m.gross
-  pub high : m.gross ≤ largest_price * m.contracts
+  pub gross : PriceSum m.contracts m.gross
 
 -- ---- from the limits
 
 pub held_day : (d : Day) → day_holds d ≡ true → HeldDay d
 unfolding day_holds
 held_day d h =
-    let t = each (minutes_hold d) (markets_hold d.markets ∷ prices_hold d ∷ fix_holds d ∷ start_holds d ∷ []) h in
+    let t = each (minutes_hold d) (markets_hold d.markets ∷ prices_hold d ∷ fix_holds d ∷ start_holds d ∷ timing_holds d ∷ []) h in
     let m =
     each (is_length (day_length d))
     (leb d.minutes.ended (day_length d) ∷ leb d.minutes.valid d.minutes.ended ∷ within d.minutes.weighted (weighted_limit d.minutes.valid) ∷ []) (t 0) in
     let p =
     each (none_or_price d.trades.last)
     (none_or_price d.minutes.index ∷ none_or_price d.fixed.price ∷ within d.fixed.amount most_amount ∷ []) (t 2) in
+    let q =
+    each (leb d.timing.latest most_time)
+    (leb d.timing.midpoints.total (most_total d) ∷ is_price_sum d.timing.midpoints.total d.timing.midpoints.sum ∷ []) (t 5) in
     record {
       length = m 0;
       ended = omega (tests, m 1);
@@ -71,12 +77,15 @@ held_day d h =
       amount = omega (tests, p 3);
       fix = t 3;
       start = t 4;
+      latest = omega (tests, q 0);
+      total = omega (tests, q 1);
+      sum = price_sum _ _ (q 2);
     }
 
 pub held_final : (m : FinalMinute) (volume : ℕ) → final_holds m volume ≡ true → HeldFinal m volume
 held_final m volume h =
-    let t = each (leb (2 * m.contracts) volume) (leb (least_price * m.contracts) m.gross ∷ leb m.gross (largest_price * m.contracts) ∷ []) h in
-    record { contracts = omega (tests, t 0); low = omega (tests, t 1); high = omega (tests, t 2) }
+    let t = each (leb (2 * m.contracts) volume) (is_price_sum m.contracts m.gross ∷ []) h in
+    record { contracts = omega (tests, t 0); gross = price_sum _ _ (t 1) }
 
 -- ---- and back
 
@@ -88,9 +97,10 @@ day_holds-held d h =
     and (h.last and h.index and h.price and le-leb _ _ h.amount)
     and h.fix
     and h.start
+    and (le-leb _ _ h.latest and le-leb _ _ h.total and is_price_sum-held _ _ h.sum)
 
 pub final_holds-held : (m : FinalMinute) (volume : ℕ) → HeldFinal m volume → final_holds m volume ≡ true
-final_holds-held m volume h = le-leb _ _ h.contracts and le-leb _ _ h.low and le-leb _ _ h.high
+final_holds-held m volume h = le-leb _ _ h.contracts and is_price_sum-held _ _ h.gross
 
 -- ---- what follows
 

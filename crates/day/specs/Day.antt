@@ -1,10 +1,10 @@
 -- A trade date by its parts, the numbers in force on it, and the rules of its minutes.
-use Rattle.std.specs.Prelude.{Bool, false, ◌&&◌, ◌||◌, ℕ, ◌+◌, ◌*◌}
+use Rattle.std.specs.Prelude.{Bool, false, cond, ◌&&◌, ◌||◌, ℕ, ◌+◌, ◌*◌}
 use lib.{Dec.leb, Dec.ltb, Dec.eqb, IntN.pos}
 use Rattle.prices.specs.Price.{is_present}
 use Rattle.funding.specs.Minute.{Minute, futures_price}
-use Rattle.settlement.specs.declared.FinalMinute.{FinalMinute}
-use Rattle.funding.specs.{declared.market.Market.Market, Market.no_market}
+use Rattle.settlement.specs.declared.{FinalMinute.FinalMinute, Midpoints.Midpoints}
+use Rattle.funding.specs.{declared.market.Market.Market, Market.no_market, Market.two_sided, Market.midpoint}
 use Rattle.calls.specs.{declared.Trade.Trade, Trade.is_simple, Length.full_day}
 use Rattle.day.specs.declared.{Day.Day, Markets.Markets}
 
@@ -20,7 +20,10 @@ no_markets = record { standing = no_market; minute = no_market }
 abbrev pub no_trades : FinalMinute
 no_trades = record { contracts = 0; gross = 0 }
 
--- 01: "the day's figures …, market and last trade start empty"; 02-1: "Without it the day has 1,320"
+abbrev pub no_midpoints : Midpoints
+no_midpoints = record { total = 0; sum = 0 }
+
+-- 01: "the day's figures …, market and last trade start empty"; 02-1: "Without it the day has 1,320"; 02-4: a close "sets that time to 0"
 abbrev pub empty_day : Day
 empty_day = record {
   markets = no_markets;
@@ -28,6 +31,7 @@ empty_day = record {
   trades = record { last = 0; settling = no_trades };
   fixed = record { price = 0; amount = pos 0 };
   session = record { length = full_day; begun = false };
+  timing = record { latest = 0; midpoints = no_midpoints };
 }
 
 -- 01: "A fixed price is nonzero exactly when the day is fixed"
@@ -47,6 +51,11 @@ is_final length ended t = in_last_minute length ended && is_simple t.kind
 -- 01: "adds its quantity to n and quantity × price to the gross"
 abbrev pub with_trade : FinalMinute → Trade → FinalMinute
 with_trade m t = record { contracts = m.contracts + t.quantity; gross = m.gross + t.quantity * t.price }
+
+-- 02-4: "each two-sided market weighs its midpoint by the milliseconds it stood"
+abbrev pub with_market : Midpoints → Market → ℕ → Midpoints
+with_market m market milliseconds =
+    cond (two_sided market) (record { total = m.total + milliseconds; sum = m.sum + midpoint market * milliseconds }) m
 
 -- the minute that ends with this market, last trade and index
 abbrev pub minute_of : Market → ℕ → ℕ → Minute

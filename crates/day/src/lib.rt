@@ -3,13 +3,13 @@
 
 ghost use Rattle.std.specs.Prelude.{◌≡◌};
 ghost use Rattle.day.specs.Day.{day_length, no_markets, empty_day, in_last_minute, forbids_minute_end, forbids_fix};
-ghost use Rattle.day.specs.Limits.{markets_hold, minutes_hold, final_holds, day_holds};
+ghost use Rattle.day.specs.Limits.{markets_hold, minutes_hold, final_holds, most_total, timing_holds, day_holds};
 
-use calls::{FULL_DAY, is_length};
+use calls::{FULL_DAY, MINUTE_LENGTH, MOST_TIME, is_length};
 use funding::market::Market;
 use integers::is_within;
-use prices::{LARGEST_PRICE, LEAST_PRICE, none_or_price};
-use settlement::FinalMinute;
+use prices::{is_price_sum, none_or_price};
+use settlement::{FinalMinute, Midpoints};
 
 pub const MOST_AMOUNT: u64 = 10_000;
 
@@ -57,6 +57,15 @@ pub struct Session {
     pub begun: bool,
 }
 
+// What the times of quotes set.
+#[derive(Clone, Copy, Default)]
+pub struct Timing {
+    // the latest time given in the minute, in milliseconds
+    pub latest: u32,
+    // those of the last minute
+    pub midpoints: Midpoints,
+}
+
 // The day's figures, which a close empties. A price, an index or a side is 0 for none and no Option, as a market's sides are.
 #[derive(Clone, Copy)]
 pub struct Day {
@@ -65,6 +74,7 @@ pub struct Day {
     pub trades: Trades,
     pub minutes: Minutes,
     pub fixed: Fixed,
+    pub timing: Timing,
 }
 
 impl Markets {
@@ -87,9 +97,8 @@ impl Trades {
     pub fn final_holds(self, v: u64) -> bool
         ensures { result ≡ final_holds self.settling v }
     {
-        let gross = self.settling.gross;
-        let n = u64::from(self.settling.contracts);
-        (2 * n <= v) & (u64::from(LEAST_PRICE) * n..=u64::from(LARGEST_PRICE) * n).contains(&gross)
+        let FinalMinute { contracts, gross } = self.settling;
+        (2 * u64::from(contracts) <= v) & is_price_sum(contracts, gross)
     }
 }
 
@@ -106,6 +115,7 @@ impl Day {
                 begun: false,
             },
             minutes: Minutes::default(),
+            timing: Timing::default(),
         }
     }
 
@@ -127,6 +137,27 @@ impl Day {
         }
     }
 
+    // The most that the total of the midpoints may be.
+    fn most_total(self) -> u32
+        ensures { result ≡ most_total self }
+    {
+        if u64::from(self.minutes.ended) + 1 < u64::from(self.session.length) {
+            return 0;
+        }
+        if self.is_in_last_minute() {
+            self.timing.latest
+        } else {
+            MINUTE_LENGTH
+        }
+    }
+
+    fn timing_holds(self) -> bool
+        ensures { result ≡ timing_holds self }
+    {
+        let Midpoints { total, sum } = self.timing.midpoints;
+        (self.timing.latest <= MOST_TIME) & (total <= self.most_total()) & is_price_sum(total, sum)
+    }
+
     // Whether the day is within its limits.
     #[tactic(auto, unfolding(crate::specs::Limits::day_holds))]
     pub fn holds(self) -> bool
@@ -139,7 +170,7 @@ impl Day {
         let fix = (self.fixed.price == 0) | (self.minutes.ended == self.session.length);
         let start = self.session.begun
             | ((self.session.length == FULL_DAY) & (self.minutes.ended == 0));
-        self.minutes_hold() & self.markets.holds() & prices & fix & start
+        self.minutes_hold() & self.markets.holds() & prices & fix & start & self.timing_holds()
     }
 
     // 3: whether a minute end, or a fix, comes at a time that the day doesn't allow.

@@ -1,6 +1,7 @@
 -- What a call leaves of a day within its limits, by the parts of the day.
 --     markets_hold-each, minute_market_holds-as_minute     the markets
 --     held-with_markets           a quote, a halt and a resume, with which the date has begun
+--     held-timed                  a timed quote, likewise
 --     held-with_fixed             a fix
 --     held-with_length            a length of day, before the date has begun
 --     trade_fields                what refusal 5 leaves of a trade's values
@@ -28,13 +29,15 @@ use Rattle.funding.specs.declared.market.Market.{Market}
 use Rattle.calls.specs.declared.Trade.{Trade}
 use Rattle.funding.specs.Market.{no_market, two_sided, as_minute, is_valid, market_holds, minute_market_holds}
 use Rattle.calls.specs.Length.{full_day, is_length}
+use Rattle.calls.specs.Time.{most_time, minute_length}
 use Rattle.calls.specs.Trade.{most_quantity, is_simple, kind_outside, trade_outside}
 use Rattle.day.specs.declared.Markets.{Markets}
 use Rattle.day.specs.declared.Trades.{Trades}
 use Rattle.day.specs.declared.Fixed.{Fixed}
 use Rattle.day.specs.declared.Day.{Day}
 use Rattle.day.specs.Day.{day_length, is_fixed, forbids_length, in_last_minute, minute_of}
-use Rattle.day_effects.specs.Effects.{with_markets, with_minutes, with_trades, with_fixed, begun, with_length, traded, minute_ended, next_minute}
+use Rattle.day_effects.specs.Effects.{with_markets, with_minutes, with_trades, with_fixed, with_timing, begun, with_length, stood_until, timed, time_over, traded, minute_ended, next_minute}
+use Rattle.day_effects.proofs.Timing.{total_by, total_before, total_most, stood_total, stood_sum}
 use Rattle.day.specs.Limits.{most_amount, markets_hold}
 use Rattle.day.proofs.Held.{HeldDay, day_most, held_minute}
 
@@ -50,7 +53,7 @@ minute_market_holds-as_minute m other hm ho =
 -- a quote, a halt, a resume and a trade change no more than these, and with them the date has begun
 held-begun : (d : Day) → HeldDay d → (m : Markets) → markets_hold m ≡ true → (t : Trades) → none_or_price t.last ≡ true → HeldDay (begun (with_trades (with_markets d m) t))
 held-begun d h m hm t ht =
-    record { length = h.length; ended = h.ended; valid = h.valid; weighted = h.weighted; markets = hm; last = ht; index = h.index; price = h.price; amount = h.amount; fix = h.fix; start = refl }
+    record { length = h.length; ended = h.ended; valid = h.valid; weighted = h.weighted; markets = hm; last = ht; index = h.index; price = h.price; amount = h.amount; fix = h.fix; start = refl; latest = h.latest; total = h.total; sum = h.sum }
 
 pub held-with_markets : (d : Day) → HeldDay d → (m : Markets) → markets_hold m ≡ true → HeldDay (begun (with_markets d m))
 held-with_markets d h m hm = held-begun d h m hm d.trades h.last
@@ -69,6 +72,9 @@ held-with_fixed d h x ended price amount =
       amount = amount;
       fix = ap (λ t. not (is_present x.price) || t) (eq-eqb d.minutes.ended (day_length d) (omega (arith, h.ended))) ∙ or-true (not (is_present x.price));
       start = h.start;
+      latest = h.latest;
+      total = h.total;
+      sum = h.sum;
     }
 
 -- no minute has ended, so that any length will do, and the day is not fixed
@@ -77,6 +83,7 @@ held-with_length d h l late hl =
     let first = and_parts (eqb (day_length d) full_day) (eqb d.minutes.ended 0) (rw late at h.start) in
     let full : day_length d ≡ full_day = eqb-true (day_length d) full_day first.0 in
     let none-ended : d.minutes.ended ≡ 0 = eqb-true d.minutes.ended 0 first.1 in
+    let none-yet : d.timing.midpoints.total ≤ 0 = total_before d h (omega arith) in
     let unfixed : not (is_fixed d) ≡ true = either (not (is_fixed d)) (eqb d.minutes.ended (day_length d)) h.fix (λ e. e) (λ e. absurd (omega tests)) in
     record {
       length = hl;
@@ -90,7 +97,37 @@ held-with_length d h l late hl =
       amount = h.amount;
       fix = ap (λ x. x || eqb d.minutes.ended l) unfixed;
       start = refl;
+      latest = h.latest;
+      total = total_by (begun (with_length d l)) d.timing.midpoints.total (λ e. none-yet) (λ e. omega (arith, none-yet)) (omega (arith, none-yet));
+      sum = h.sum;
     }
+
+-- ---- a timed quote
+
+module _ (d : Day) (h : HeldDay d) (m : Markets) (hm : markets_hold m ≡ true) (time : ℕ) (forward : d.timing.latest ≤ time) (most : time ≤ most_time) where
+  pub held-timed : HeldDay (begun (with_timing (with_markets d m) (timed d time)))
+  held-timed =
+      let after = begun (with_timing (with_markets d m) (timed d time)) in
+      let enough : time ≤ minute_length = omega arith in
+      record {
+        length = h.length;
+        ended = h.ended;
+        valid = h.valid;
+        weighted = h.weighted;
+        markets = hm;
+        last = h.last;
+        index = h.index;
+        price = h.price;
+        amount = h.amount;
+        fix = h.fix;
+        start = refl;
+        latest = most;
+        total = total_by after (stood_until d time).total
+            (λ b. stood_total d h time forward enough 0 (λ w. absurd (omega arith)) (λ o. total_before d h b))
+            (λ w. stood_total d h time forward enough time (λ w. omega arith) (λ o. absurd (o w)))
+            (stood_total d h time forward enough minute_length (λ w. enough) (λ o. total_most d h));
+        sum = stood_sum d h time forward enough;
+      }
 
 -- ---- a trade's values
 
@@ -134,7 +171,10 @@ module _ (d : Day) (h : HeldDay d) (t : Terms) (halted : Bool) (u : ℕ) (before
       let i = price_to u (the_price u (v 2) hu) in
       record { sum = h.weighted; count = omega (arith, h.valid, day_most d h); size = basis_size F u i.0 i.1 f.0 f.1 }
 
-  pub held-minute_ended : is_fixed d ≡ false → HeldDay (begun (with_minutes (with_markets d (next_minute d.markets)) (minute_ended d valid u)))
+  abbrev ended_day : Day
+  ended_day = begun (with_timing (with_minutes (with_markets d (next_minute d.markets)) (minute_ended d valid u)) (time_over d))
+
+  pub held-minute_ended : is_fixed d ≡ false → HeldDay ended_day
   held-minute_ended unfixed =
       let standing = each (market_holds d.markets.standing) (minute_market_holds d.markets.minute ∷ []) h.markets 0 in
       record {
@@ -149,8 +189,17 @@ module _ (d : Day) (h : HeldDay d) (t : Terms) (halted : Bool) (u : ℕ) (before
         amount = h.amount;
         fix = ap (λ x. not x || eqb (d.minutes.ended + 1) (day_length d)) unfixed;
         start = refl;
+        latest = omega arith;
+        total = total_by ended_day (stood_until d minute_length).total
+            (λ b. stood_total d h minute_length forward (omega arith) 0 (λ w. absurd (omega arith)) (λ o. total_before d h (omega arith)))
+            (λ w. stood_total d h minute_length forward (omega arith) 0 (λ w'. absurd (omega arith)) (λ o. total_before d h (omega arith)))
+            (stood_total d h minute_length forward (omega arith) minute_length (λ w. omega arith) (λ o. total_most d h));
+        sum = stood_sum d h minute_length forward (omega arith);
       }
     where
+      forward : d.timing.latest ≤ minute_length
+      forward = omega (arith, h.latest)
+
       sums : (v : Bool) → valid ≡ v → (cond v (d.minutes.valid + 1) d.minutes.valid ≤ d.minutes.ended + 1) × (nat_abs (cond v (accrued d.minutes.weighted d.minutes.valid (basis_of (minute_of d.markets.minute d.trades.last u).F u)) d.minutes.weighted) ≤ weighted_limit (cond v (d.minutes.valid + 1) d.minutes.valid))
       sums true e = (omega (arith, h.valid), accrued_size d.minutes.weighted d.minutes.valid (basis_of (minute_of d.markets.minute d.trades.last u).F u) (accrues e))
       sums false e = (omega (arith, h.valid), h.weighted)

@@ -1,16 +1,17 @@
-// What quotes, halts, trades, minute ends and a fix leave of a day.
+// What quotes, timed or not, halts, trades, minute ends and a fix leave of a day.
 #![tactic(auto)]
 
 ghost use Rattle.std.specs.Prelude.{◌≡◌, cond};
-ghost use Rattle.day.specs.Day.{no_markets};
-ghost use Rattle.day_effects.specs.Effects.{with_markets, with_minutes, with_trades, with_fixed, weighted_after, minute_ended, next_minute};
+ghost use Rattle.day.specs.Day.{no_markets, with_market};
+ghost use Rattle.day_effects.specs.Effects.{with_markets, with_minutes, with_trades, with_fixed, with_timing, stood_until, timed, time_over, weighted_after, minute_ended, next_minute};
 ghost use Rattle.day_effects.specs.Effects.{quoted as Effects·quoted};
 ghost use Rattle.day_effects.specs.Effects.{traded as Effects·traded};
-ghost use Rattle.day_effects.specs.Inner.{RoomForTrade, Endable};
+ghost use Rattle.day_effects.specs.Inner.{RoomForTrade, RoomForTime, Endable};
 
-use calls::{Kind, Trade};
-use day::{Day, Fixed, Markets};
+use calls::{Kind, MINUTE_LENGTH, TimedQuote, Trade};
+use day::{Day, Fixed, Markets, Timing};
 use funding::market::Market;
+use settlement::Midpoints;
 
 fn quoted_markets(markets: Markets, market: Market) -> Markets
     ensures { result ≡ Effects·quoted markets market }
@@ -34,6 +35,33 @@ pub fn quoted(mut day: Day, market: Market) -> Day
 {
     day.markets = quoted_markets(day.markets, market);
     day
+}
+
+// The midpoints where the standing market has stood up to this time of the minute.
+fn stood_until(day: Day, time: u32) -> Midpoints
+    requires { RoomForTime day time }
+    ensures { result ≡ stood_until day time }
+{
+    let mut midpoints = day.timing.midpoints;
+    if day.is_in_last_minute() & day.markets.standing.is_two_sided() {
+        let milliseconds = time - day.timing.latest;
+        midpoints.total += milliseconds;
+        midpoints.sum += u64::from(day.markets.standing.midpoint()) * u64::from(milliseconds);
+    }
+    midpoints
+}
+
+// A time that is no earlier than the latest, and room for it, are required.
+pub fn timed_quoted(day: Day, quote: TimedQuote) -> Day
+    requires { RoomForTime day quote.time }
+    ensures { result ≡ with_timing (with_markets day (Effects·quoted day.markets quote.market)) (timed day quote.time) }
+{
+    let mut after = quoted(day, quote.market);
+    after.timing = Timing {
+        latest: quote.time,
+        midpoints: stood_until(day, quote.time),
+    };
+    after
 }
 
 pub fn without_markets(mut day: Day) -> Day
@@ -84,9 +112,14 @@ fn index_after(before: u32, last: bool, index: u32) -> u32
 
 pub fn minute_ended(mut day: Day, valid: bool, index: u32) -> Day
     requires { Endable day valid index }
-    ensures { result ≡ with_minutes (with_markets day (next_minute day.markets)) (minute_ended day valid index) }
+    ensures { result
+        ≡ with_timing (with_minutes (with_markets day (next_minute day.markets)) (minute_ended day valid index)) (time_over day) }
 {
     let markets = next_minute(day.markets);
+    let timing = Timing {
+        latest: 0,
+        midpoints: stood_until(day, MINUTE_LENGTH),
+    };
     let mut minutes = day.minutes;
     minutes.index = index_after(day.minutes.index, day.is_in_last_minute(), index);
     minutes.weighted = weighted_after(day, valid, index);
@@ -94,6 +127,7 @@ pub fn minute_ended(mut day: Day, valid: bool, index: u32) -> Day
     minutes.ended = day.minutes.ended + 1;
     day.markets = markets;
     day.minutes = minutes;
+    day.timing = timing;
     day
 }
 

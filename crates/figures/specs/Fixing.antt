@@ -6,7 +6,7 @@ use Rattle.figures.specs.{declared.Figures.Figures, declared.Fixing.Fixing, Figu
 
 -- what a fix with this set price finds: P, the clamped rate, the amount and k
 abbrev pub fix_price : Figures → ℕ → ℕ
-fix_price f set = settlement_price set f.day.trades.settling f.day.minutes.index f.previous
+fix_price f set = settlement_price set f.day.trades.settling f.day.timing.midpoints f.day.minutes.index f.previous
 
 abbrev pub fix_rate : Figures → ℤ
 fix_rate f = clamped_to (terms_on f) (rate_of f.day.minutes.valid f.day.minutes.weighted)
@@ -20,4 +20,5 @@ fixing_at f set = record { price = fix_price f set; rate = fix_rate f; amount = 
 -- the figures of a fix fit: required by it, and had by figures within their limits
 pub record Fixable (f : Figures) : Type 0 where
   pub gross : f.day.trades.settling.gross ≤ largest_price * f.day.trades.settling.contracts
+  pub midpoints : f.day.timing.midpoints.sum ≤ largest_price * f.day.timing.midpoints.total
   pub size : f.size ≤ tenth

@@ -80,14 +80,16 @@ impl Figures {
             & self.day.holds()
     }
 
-    // What a fix with this set price, 0 for none as in its call, finds. A gross and a size within their limits are required, so that the figures fit.
+    // What a fix with this set price, 0 for none as in its call, finds. A gross, a sum of midpoints and a size within
+    // their limits are required, so that the figures fit.
     pub fn fixing(self, set: u32) -> Fixing
         requires { Fixable self }
         ensures { result ≡ fixing_at self set }
     {
         let settling = self.day.trades.settling;
         let minutes = self.day.minutes;
-        let price = settlement::settlement_price(set, settling, minutes.index, self.previous);
+        let midpoints = self.day.timing.midpoints;
+        let price = settlement::settlement_price(set, settling, midpoints, minutes.index, self.previous);
         let rate = settlement::rate(minutes.valid, minutes.weighted);
         let clamped = settlement::clamp(rate, self.terms());
         Fixing {

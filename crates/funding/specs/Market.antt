@@ -1,5 +1,5 @@
 -- A market: its sides, its limits, and when a minute that ends with it is valid.
-use Rattle.std.specs.Prelude.{◌&&◌, Bool, cond, not, ◌||◌, ℕ, eqb, ltb}
+use Rattle.std.specs.Prelude.{◌&&◌, Bool, cond, not, ◌||◌, ℕ, eqb, ltb, ◌+◌, ◌/◌}
 use Rattle.prices.specs.Price.{is_present, none_or_ticked}
 use Rattle.funding.specs.{declared.Terms.Terms, Minute.within_spread}
 use Rattle.funding.specs.declared.market.Market.{Market}
@@ -10,6 +10,10 @@ no_market = record { bid = 0; offer = 0 }
 -- both sides stand
 abbrev pub two_sided : Market → Bool
 two_sided m = is_present m.bid && is_present m.offer
+
+-- the midpoint of a two-sided market
+abbrev pub midpoint : Market → ℕ
+midpoint m = (m.bid + m.offer) / 2
 
 -- 01: "bid below offer when both stand"
 abbrev pub uncrossed : Market → Bool

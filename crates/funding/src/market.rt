@@ -1,7 +1,7 @@
 // A market: its limits, and the minutes that end with it.
 ghost use Rattle.std.specs.Prelude.{◌≡◌};
 ghost use Rattle.funding.specs.Minute.{within_spread, futures_price};
-ghost use Rattle.funding.specs.Market.{two_sided, uncrossed, as_minute, is_valid, market_holds, minute_market_holds};
+ghost use Rattle.funding.specs.Market.{two_sided, midpoint, uncrossed, as_minute, is_valid, market_holds, minute_market_holds};
 
 use crate::Terms;
 use prices::none_or_ticked;
@@ -15,10 +15,16 @@ pub struct Market {
 }
 
 impl Market {
-    fn is_two_sided(self) -> bool
+    pub fn is_two_sided(self) -> bool
         ensures { result ≡ two_sided self }
     {
         (self.bid != 0) & (self.offer != 0)
+    }
+
+    pub fn midpoint(self) -> u32
+        ensures { result ≡ midpoint self }
+    {
+        self.bid.midpoint(self.offer)
     }
 
     pub fn is_uncrossed(self) -> bool
@@ -50,7 +56,7 @@ impl Market {
         if (last != 0) & (self.bid..=self.offer).contains(&last) {
             last
         } else {
-            self.bid.midpoint(self.offer)
+            self.midpoint()
         }
     }
 

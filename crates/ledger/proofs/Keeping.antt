@@ -58,6 +58,7 @@ shape_kept n b (call.Fix set) s = same_columns n b (figures_after b.figures (cal
 shape_kept n b call.Close s =
     record { opening = s.position; position = s.position; cost = length-replicate n _; volume = length-replicate n _; cash = table_length n _ }
 shape_kept n b (call.DayLength l) s = same_columns n b (figures_after b.figures (call.DayLength l)) s
+shape_kept n b (call.TimedQuote q) s = same_columns n b (figures_after b.figures (call.TimedQuote q)) s
 
 -- ---- the limits
 
@@ -79,6 +80,7 @@ module _ (n : ℕ) (b : Book) (h : Held n b) where
       by (call.Fix set) p f = same_accounts (figures_after b.figures (call.Fix set)) f refl refl
       by call.Close p f = record { figures = f; account = closed_account n b h; final = no_trades-held _ }
       by (call.DayLength l) p f = same_accounts (figures_after b.figures (call.DayLength l)) f refl refl
+      by (call.TimedQuote q) p f = same_accounts (figures_after b.figures (call.TimedQuote q)) f refl refl
 
 pub limits_kept : LimitsKept
 limits_kept n b c s r = let p = passed n b c r in holds n (effect n b c) (kept n b (held n b p.limits) c s p)

@@ -90,4 +90,5 @@ module _ (n : ℕ) (b : Book) (t : Trade) (shape : Shaped n b) (h : Held n b) (p
       let d = b.figures.day in
       let m = d.trades.settling in
       cond_both (is_final (day_length d) d.minutes.ended t) (with_trade m t) m (λ x. HeldFinal x (sum_below n (count_at (counted b.columns.volume t))))
-      (λ e. omega (arith, volumes, fields.low, fields.high, h.final)) (λ e. omega (arith, volumes, h.final))
+      (λ e. record { contracts = omega (arith, volumes, h.final.contracts); gross = record { low = omega (arith, fields.low, h.final.gross.low); high = omega (arith, fields.high, h.final.gross.high) } })
+      (λ e. record { contracts = omega (arith, volumes, h.final.contracts); gross = h.final.gross })

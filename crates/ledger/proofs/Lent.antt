@@ -65,14 +65,14 @@ module _ (b : Book) (w : WithinLimits accounts b) where
         costs = record { buyer_in = rw c buyer.fits; seller_in = rw c seller.fits; buyer = omega (arith, cost_most t.buyer buyer.fits); seller = omega (arith, cost_most t.seller seller.fits) };
         volumes = record { buyer_in = rw v buyer.fits; seller_in = rw v seller.fits; buyer = omega (arith, x.volume); seller = omega (arith, y.volume) };
         contracts = omega (arith, contracts_most accounts b holds);
-        gross = omega (arith, contracts_most accounts b holds, holds.final.high);
+        gross = omega (arith, contracts_most accounts b holds, holds.final.gross.high);
       }
 
   pub figures_held : figures_hold b.figures ≡ true
   figures_held = figures_hold-held b.figures holds.figures
 
   pub fixable : Fixable b.figures
-  fixable = record { gross = holds.final.high; size = size_most b.figures.size holds.figures.size }
+  fixable = record { gross = holds.final.gross.high; midpoints = holds.figures.day.sum.high; size = size_most b.figures.size holds.figures.size }
 
   pub closable : Closable b.figures b.columns
   closable =

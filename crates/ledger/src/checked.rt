@@ -25,6 +25,7 @@ pub(crate) fn step(book: &mut Book, call: Call) -> Outcome
         Call::Fix(set) => outcomes::fix(figures, set),
         Call::Close => closing::close(figures, &mut book.columns),
         Call::DayLength(minutes) => outcomes::day_length(figures, minutes),
+        Call::TimedQuote(quote) => outcomes::timed_quote(figures, quote),
     }
 }
 

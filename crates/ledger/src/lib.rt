@@ -9,7 +9,7 @@ ghost use Rattle.ledger.specs.Step.{answer_of, empty_book, report_refusal, repor
 ghost use Rattle.ledger.specs.Step.{opening as Step·opening};
 ghost use Rattle.ledger.specs.Step.{step as Step·step};
 
-use calls::{Call, Trade};
+use calls::{Call, TimedQuote, Trade};
 use checked::step;
 use columns::{ACCOUNTS, Columns};
 use figures::product::Product;
@@ -139,6 +139,12 @@ impl Book {
         ensures { answer_of result.outcome result.book ≡ Step·step accounts self (Call.DayLength minutes) }
     {
         self.step(Call::DayLength(minutes))
+    }
+
+    pub fn timed_quote(self, quote: TimedQuote) -> Answer
+        ensures { answer_of result.outcome result.book ≡ Step·step accounts self (Call.TimedQuote quote) }
+    {
+        self.step(Call::TimedQuote(quote))
     }
 
     // Entry j of the lists becomes account j's position and cash. Refusals 2 and 10 leave the lists as they are. They are two, which

@@ -4,7 +4,7 @@
 --     figures_kept            the same, from the tests
 -- Assumes nothing.
 use mathlib.Core.Path.{◌≡◌, refl}
-use mathlib.Core.Bool.{true, ◌&&◌}
+use mathlib.Core.Bool.{true, false, not, ◌&&◌}
 use mathlib.Core.List.{[], ◌∷◌}
 use Prim.Native.Nat.{ℕ, ◌≤◌}
 use native.Mathlib.Omega.{arith}
@@ -21,6 +21,7 @@ use Rattle.figures.specs.declared.Figures.{Figures}
 use Rattle.calls.specs.declared.Call.TheVariants as call
 use Rattle.funding.specs.declared.market.Market.{Market}
 use Rattle.calls.specs.declared.Trade.{Trade}
+use Rattle.calls.specs.declared.TimedQuote.{TimedQuote}
 use Rattle.calls.specs.declared.Call.{Call}
 use Rattle.funding.specs.Market.{as_minute, uncrossed, market_holds, minute_market_holds}
 use Rattle.calls.specs.Length.{is_length}
@@ -29,20 +30,20 @@ use Rattle.figures.specs.Figures.{terms_on, tie_on, tenth}
 use Rattle.day_effects.specs.Effects.{quoted}
 use Rattle.outcomes.specs.Effects.{fixed_at, figures_after}
 use Rattle.figures.specs.Fixing.{fix_price, fix_rate, fix_amount}
-use Rattle.day.specs.Limits.{most_amount}
-use Rattle.refusals.specs.Refusals.{no_accounts, Accounts}
+use Rattle.day.specs.Limits.{most_amount, markets_hold}
+use Rattle.refusals.specs.Refusals.{no_accounts, Accounts, sides_outside}
 use Rattle.outcomes.specs.Outcome.{FiguresKept}
 use Rattle.day.proofs.Held.{HeldDay, HeldFinal, held_final, empty_day-held}
 use Rattle.figures.proofs.Rates.{rate_size}
 use Rattle.figures.proofs.Held.{HeldFigures, held_figures, figures_hold-held, size_most}
-use Rattle.outcomes.proofs.Passed.{PassedFigures, passed_figures}
-use Rattle.day_effects.proofs.Keeping.{minute_market_holds-as_minute, markets_hold-each, held-with_markets, held-with_fixed, held-with_length, held-traded, held-minute_ended}
+use Rattle.outcomes.proofs.Passed.{PassedFigures, passed_figures, passed_time}
+use Rattle.day_effects.proofs.Keeping.{minute_market_holds-as_minute, markets_hold-each, held-with_markets, held-timed, held-with_fixed, held-with_length, held-traded, held-minute_ended}
 
 -- ---- a fix
 
 module _ (f : Figures) (h : HeldFigures f) (volume : ℕ) (final : HeldFinal f.day.trades.settling volume) (set : ℕ) (hs : none_or_price set ≡ true) where
   pub fix_price-held : none_or_price (fix_price f set) ≡ true
-  fix_price-held = settlement_is_price set f.day.trades.settling f.day.minutes.index f.previous hs final.low final.high
+  fix_price-held = settlement_is_price set f.day.trades.settling f.day.timing.midpoints f.day.minutes.index f.previous hs final.gross h.day.sum
 
   pub fix_amount-held : nat_abs (fix_amount f set) ≤ most_amount
   fix_amount-held =
@@ -59,12 +60,22 @@ module _ (f : Figures) (a : Accounts) (h : HeldFigures f) where
   held-with_day : {x : Figures} → x.size ≡ f.size → x.closed ≡ f.closed → x.previous ≡ f.previous → HeldDay x.day → HeldFigures x
   held-with_day {x} size closed previous day = record { size = rw size h.size; closed = rw closed h.closed; price = rw previous h.price; index = rw previous h.index; day = day }
 
+  -- the markets after a quote
+  quoted_holds : (m : Market) → sides_outside m ≡ false → not (uncrossed m) ≡ false → markets_hold (quoted d.markets m) ≡ true
+  quoted_holds m outside crossed =
+      let sides : market_holds m ≡ true = not-false (none_or_ticked m.bid && none_or_ticked m.offer) outside and not-false (uncrossed m) crossed in
+      let minute = each (market_holds d.markets.standing) (minute_market_holds d.markets.minute ∷ []) h.day.markets 1 in
+      markets_hold-each m (as_minute m d.markets.minute) sides (minute_market_holds-as_minute m d.markets.minute sides minute)
+
   quote_kept : (m : Market) → PassedFigures f (call.Quote m) a → HeldFigures (figures_after f (call.Quote m))
   unfolding figures_after
-  quote_kept m p =
-      let sides : market_holds m ≡ true = not-false (none_or_ticked m.bid && none_or_ticked m.offer) p.field and not-false (uncrossed m) p.market in
-      let minute = each (market_holds d.markets.standing) (minute_market_holds d.markets.minute ∷ []) h.day.markets 1 in
-      held-with_day refl refl refl (held-with_markets d h.day (quoted d.markets m) (markets_hold-each m (as_minute m d.markets.minute) sides (minute_market_holds-as_minute m d.markets.minute sides minute)))
+  quote_kept m p = held-with_day refl refl refl (held-with_markets d h.day (quoted d.markets m) (quoted_holds m p.field p.market))
+
+  timed_quote_kept : (q : TimedQuote) → PassedFigures f (call.TimedQuote q) a → HeldFigures (figures_after f (call.TimedQuote q))
+  unfolding figures_after
+  timed_quote_kept q p =
+      let t = passed_time f q a p in
+      held-with_day refl refl refl (held-timed d h.day (quoted d.markets q.market) (quoted_holds q.market t.sides p.market) q.time t.forward t.most)
 
   trade_kept : (t : Trade) → PassedFigures f (call.Trade t) a → HeldFigures (figures_after f (call.Trade t))
   unfolding figures_after
@@ -102,6 +113,7 @@ module _ (f : Figures) (a : Accounts) (h : HeldFigures f) where
   held_after (call.Fix set) volume final p = fix_kept volume set final p
   held_after call.Close volume final p = close_kept p
   held_after (call.DayLength l) volume final p = length_kept l p
+  held_after (call.TimedQuote q) volume final p = timed_quote_kept q p
 
 pub figures_kept : FiguresKept
 figures_kept f c v h final r =

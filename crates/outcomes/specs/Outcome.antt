@@ -14,7 +14,7 @@ day_forbids d c =
 
 -- the sentences of a call on these figures, where its accounts say so much
 abbrev pub sentences_on : Figures → Call → Accounts → List (ℕ × Bool)
-sentences_on f c a = sentences f.closed (day_forbids f.day c) f.halted (on_fix (fix_price f) 0 c) c a
+sentences_on f c a = sentences f.closed (day_forbids f.day c) f.halted f.day.timing.latest (on_fix (fix_price f) 0 c) c a
 
 -- the number of a call's refusal where its accounts give none
 abbrev pub figures_refusal : Figures → Call → ℕ

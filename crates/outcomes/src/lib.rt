@@ -9,7 +9,7 @@ ghost use Rattle.figures.specs.Fixing.{Fixable};
 ghost use Rattle.outcomes.specs.Effects.{with_begun_day, figures_after};
 ghost use Rattle.outcomes.specs.Outcome.{outcome};
 
-use calls::{Call, Trade};
+use calls::{Call, TimedQuote, Trade};
 use day::{Day, Fixed};
 use figures::{Figures, Fixing, Outcome};
 use funding::market::Market;
@@ -28,6 +28,17 @@ pub fn quote(figures: &mut Figures, market: Market) -> Outcome
 {
     refusals::quote(figures.closed, figures.halted, market)?;
     begin(figures, day_effects::quoted(figures.day, market));
+    Ok(None)
+}
+
+// Figures within their limits are required, so that the time has room.
+pub fn timed_quote(figures: &mut Figures, quote: TimedQuote) -> Outcome
+    requires { figures_hold figures.old ≡ true }
+    ensures { outcome_of result figures.new ≡ outcome figures.old (Call.TimedQuote quote) }
+{
+    let day = figures.day;
+    refusals::timed_quote(figures.closed, figures.halted, day.timing.latest, quote)?;
+    begin(figures, day_effects::timed_quoted(day, quote));
     Ok(None)
 }
 

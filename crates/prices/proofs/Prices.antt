@@ -3,15 +3,16 @@
 --     none_or_price-price          a price is 0 or a price;  the_price  what is present and is one of the two is a price
 --     price_most             a price that may be none
 --     ticked_price           what is 0 or ticked is 0 or a price
+--     PriceSum, price_sum, is_price_sum-held      what so many prices add up to
 -- Assumes nothing.
 use mathlib.Core.Path.{◌≡◌, refl, ◌∙◌, ap, ap₂}
 use mathlib.Core.Bool.{Bool, true, false, ◌&&◌, ◌||◌, or-true}
-use Prim.Native.Nat.{ℕ, ◌%◌, ◌≤◌}
+use Prim.Native.Nat.{ℕ, ◌*◌, ◌%◌, ◌≤◌}
 use lib.Dec.{leb, eqb}
 use borrow.Author.Tests.{leb-true, le-leb, not-true}
 use Rattle.std.proofs.lemmas.Bool.{and_parts}
 use Rattle.integers.proofs.Tests.{tests}
-use Rattle.prices.specs.Price.{least_price, largest_price, tick, is_price, is_ticked, is_present, none_or_price, none_or_ticked}
+use Rattle.prices.specs.Price.{least_price, largest_price, tick, is_price, is_ticked, is_present, none_or_price, none_or_ticked, is_price_sum}
 
 pub price_to : (p : ℕ) → is_price p ≡ true → (least_price ≤ p) × (p ≤ largest_price)
 price_to p h = let k = and_parts (leb least_price p) (leb p largest_price) h in (leb-true least_price p k.0, leb-true p largest_price k.1)
@@ -38,3 +39,15 @@ ticked_price p h = by (eqb p 0) h
     by : (t : Bool) → t || is_ticked p ≡ true → t || is_price p ≡ true
     by true h = refl
     by false h = (and_parts (is_price p) (eqb (p % tick) 0) h).0
+
+pub record PriceSum (n sum : ℕ) : Type 0 where
+  pub low : least_price * n ≤ sum
+  pub high : sum ≤ largest_price * n
+
+pub price_sum : (n sum : ℕ) → is_price_sum n sum ≡ true → PriceSum n sum
+price_sum n sum h =
+    let k = and_parts (leb (least_price * n) sum) (leb sum (largest_price * n)) h in
+    record { low = leb-true (least_price * n) sum k.0; high = leb-true sum (largest_price * n) k.1 }
+
+pub is_price_sum-held : (n sum : ℕ) → PriceSum n sum → is_price_sum n sum ≡ true
+is_price_sum-held n sum p = ap₂ ◌&&◌ (le-leb (least_price * n) sum p.low) (le-leb sum (largest_price * n) p.high)

@@ -1,5 +1,5 @@
 -- Prices, in cents.
-use Rattle.std.specs.Prelude.{Bool, not, ◌&&◌, ◌||◌, ℕ, ◌%◌, leb, eqb}
+use Rattle.std.specs.Prelude.{Bool, not, ◌&&◌, ◌||◌, ℕ, ◌*◌, ◌%◌, leb, eqb}
 
 -- 01: "A price is 5,000 to 50,000,000"
 abbrev pub least_price : ℕ
@@ -24,6 +24,10 @@ none_or_price p = eqb p 0 || is_price p
 
 abbrev pub none_or_ticked : ℕ → Bool
 none_or_ticked p = eqb p 0 || is_ticked p
+
+-- what so many prices add up to: 01, "between 5,000n and 50,000,000n"
+abbrev pub is_price_sum : ℕ → ℕ → Bool
+is_price_sum n sum = leb (least_price * n) sum && leb sum (largest_price * n)
 
 -- a price, an index or a side of a market that is there: 0 stands for none
 abbrev pub is_present : ℕ → Bool

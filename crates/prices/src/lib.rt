@@ -2,7 +2,7 @@
 #![tactic(auto)]
 
 ghost use Rattle.std.specs.Prelude.{◌≡◌};
-ghost use Rattle.prices.specs.Price.{is_price, is_ticked, none_or_price, none_or_ticked};
+ghost use Rattle.prices.specs.Price.{is_price, is_ticked, none_or_price, none_or_ticked, is_price_sum};
 
 pub const LEAST_PRICE: u32 = 5_000;
 
@@ -33,4 +33,12 @@ pub fn none_or_ticked(p: u32) -> bool
     ensures { result ≡ none_or_ticked p }
 {
     (p == 0) | is_ticked(p)
+}
+
+// Whether so many prices can add up to this sum.
+pub fn is_price_sum(count: u32, sum: u64) -> bool
+    ensures { result ≡ is_price_sum count sum }
+{
+    let n = u64::from(count);
+    (u64::from(LEAST_PRICE) * n..=u64::from(LARGEST_PRICE) * n).contains(&sum)
 }

@@ -20,6 +20,7 @@ not_zero refusal.Volume = refl
 not_zero refusal.Position = refl
 not_zero refusal.Unpriced = refl
 not_zero refusal.Lists = refl
+not_zero refusal.Time = refl
 
 pub is_zero : {A : Type 0} (r : Result A Refusal) → nat_eq (number_of r) 0 ≡ is_ok r
 is_zero (Ok a) = refl
@@ -36,7 +37,8 @@ by_number n =
     (cond (nat_eq n 6) refusal.Crossed
     (cond (nat_eq n 7) refusal.Volume
     (cond (nat_eq n 8) refusal.Position
-    (cond (nat_eq n 9) refusal.Unpriced refusal.Lists))))))))
+    (cond (nat_eq n 9) refusal.Unpriced
+    (cond (nat_eq n 10) refusal.Lists refusal.Time)))))))))
 
 its_own : (r : Refusal) → by_number (number r) ≡ r
 unfolding by_number
@@ -50,6 +52,7 @@ its_own refusal.Volume = refl
 its_own refusal.Position = refl
 its_own refusal.Unpriced = refl
 its_own refusal.Lists = refl
+its_own refusal.Time = refl
 
 pub own_numbers : OwnNumbers
 own_numbers r s e = sym (its_own r) ∙ ap by_number e ∙ its_own s

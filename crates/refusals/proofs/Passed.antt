@@ -11,7 +11,7 @@ use lib.Dec.{eqb}
 use borrow.Author.Tests.{eq-eqb}
 use Rattle.std.proofs.lemmas.Bool.{and_parts, or_parts}
 use Rattle.calls.specs.declared.Call.{Call}
-use Rattle.refusals.specs.Refusals.{is_full, halt_forbids, outside_field, crossed, unpriced, Accounts, sentences, first_met}
+use Rattle.refusals.specs.Refusals.{is_full, halt_forbids, outside_field, runs_back, crossed, unpriced, Accounts, sentences, first_met}
 
 -- whether the sentence at a place of a list is met
 abbrev pub met_at : List (ℕ × Bool) → ℕ → Bool
@@ -41,21 +41,23 @@ never_met number ((m, false) ∷ rest) none h =
     let start = and_parts (not (eqb 0 number)) (not (eqb m number) && is_none number rest) none in
     never_met number rest (rw (start.0, (and_parts (not (eqb m number)) (is_none number rest) start.1).1)) h
 
-pub record Passed (closed : ℕ) (forbidden halted : Bool) (found : ℕ) (c : Call) (a : Accounts) : Type 0 where
+pub record Passed (closed : ℕ) (forbidden halted : Bool) (latest found : ℕ) (c : Call) (a : Accounts) : Type 0 where
   pub full : is_full closed ≡ false
   pub day : forbidden ≡ false
   pub halt : halt_forbids halted c ≡ false
   pub accounts : a.missing ≡ false
   pub field : outside_field c ≡ false
+  pub time : runs_back latest c ≡ false
   pub market : crossed c ≡ false
   pub volume : a.volume ≡ false
   pub position : a.position ≡ false
   pub price : unpriced found c ≡ false
 
-pub passed : (closed : ℕ) (forbidden halted : Bool) (price : ℕ) (c : Call) (a : Accounts) → first_met (sentences closed forbidden halted price c a) ≡ 0
-    → Passed closed forbidden halted price c a
-passed closed forbidden halted price c a h =
-    let u = unmet (sentences closed forbidden halted price c a) refl h in
+pub passed : (closed : ℕ) (forbidden halted : Bool) (latest price : ℕ) (c : Call) (a : Accounts)
+    → first_met (sentences closed forbidden halted latest price c a) ≡ 0
+    → Passed closed forbidden halted latest price c a
+passed closed forbidden halted latest price c a h =
+    let u = unmet (sentences closed forbidden halted latest price c a) refl h in
     let days = or_parts (is_full closed) forbidden (u 0) in
     let fields = or_parts a.missing (outside_field c) (u 2) in
-    record { full = days.0; day = days.1; halt = u 1; accounts = fields.0; field = fields.1; market = u 3; volume = u 4; position = u 5; price = u 6 }
+    record { full = days.0; day = days.1; halt = u 1; accounts = fields.0; field = fields.1; time = u 3; market = u 4; volume = u 5; position = u 6; price = u 7 }

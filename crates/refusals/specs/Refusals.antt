@@ -1,13 +1,13 @@
--- Refusals 3 to 9, in document 01's order: a number comes if its sentence is met, and only then.
+-- Refusals 3 to 9 and 11, in checking order: a number comes if its sentence is met, and only then.
 use mathlib.Core.{Path.◌≡◌, Bool.Bool, Bool.false, Bool.not, Bool.cond, Bool.◌&&◌, Bool.◌||◌, List.List, List.[], List.◌∷◌}
-use Rattle.std.specs.Prelude.{ℕ, leb, Result, Ok, Err}
+use Rattle.std.specs.Prelude.{ℕ, leb, ltb, Result, Ok, Err}
 use Rattle.prices.specs.Price.{is_present, none_or_price, none_or_ticked}
 use Rattle.refusals.specs.declared.Refusal.{Refusal}
 use Rattle.refusals.specs.declared.Refusal.TheVariants as refusal
-use Rattle.funding.specs.Market.{uncrossed}
-use Rattle.calls.specs.{declared.Call.Call, Calls.on_quote, Calls.on_trade, Calls.on_halt, Calls.on_resume, Calls.on_minute_end, Calls.on_fix, Calls.on_day_length, Length.is_length, Trade.trade_outside}
+use Rattle.funding.specs.{declared.market.Market.Market, Market.uncrossed}
+use Rattle.calls.specs.{declared.Call.Call, Calls.on_quote, Calls.on_trade, Calls.on_halt, Calls.on_resume, Calls.on_minute_end, Calls.on_fix, Calls.on_day_length, Calls.on_timed_quote, Length.is_length, Time.most_time, Trade.trade_outside}
 
--- the number of each refusal in document 01
+-- the number of each refusal in documents 01 and 02
 abbrev pub number : Refusal → ℕ
 number refusal.Record = 1
 number refusal.Limits = 2
@@ -19,6 +19,7 @@ number refusal.Volume = 7
 number refusal.Position = 8
 number refusal.Unpriced = 9
 number refusal.Lists = 10
+number refusal.Time = 11
 
 -- no two refusals have one number, so that a number says which one it is: proved in proofs/Numbers.antt
 abbrev pub OwnNumbers : Type 0
@@ -41,12 +42,22 @@ is_full closed = leb most_days closed
 abbrev pub halt_forbids : Bool → Call → Bool
 halt_forbids halted c = on_trade (λ t. halted) (on_quote (λ m. halted) (on_halt halted (on_resume (not halted) false c) c) c) c
 
--- 5: "A value is outside its field: …; a nonzero quote side … not ticked; an index or set price neither 0 nor a price"; 02-1: "Any other length is refused by 5"
+-- 5: "a nonzero quote side … not ticked"
+abbrev pub sides_outside : Market → Bool
+sides_outside m = not (none_or_ticked m.bid && none_or_ticked m.offer)
+
+-- 5: "A value is outside its field: …; a nonzero quote side … not ticked; an index or set price neither 0 nor a price"; 02-1: "Any other length is refused by 5";
+-- 02-4: "A time above 59,999 is refused by 5"
 abbrev pub outside_field : Call → Bool
 outside_field c =
-    on_quote (λ m. not (none_or_ticked m.bid && none_or_ticked m.offer))
+    on_timed_quote (λ q. ltb most_time q.time || sides_outside q.market)
+    (on_quote sides_outside
     (on_trade trade_outside
-    (on_minute_end (λ u. not (none_or_price u)) (on_fix (λ set. not (none_or_price set)) (on_day_length (λ l. not (is_length l)) false c) c) c) c) c
+    (on_minute_end (λ u. not (none_or_price u)) (on_fix (λ set. not (none_or_price set)) (on_day_length (λ l. not (is_length l)) false c) c) c) c) c) c
+
+-- 11: 02-4, "one that runs back within its minute", where this is the latest time given in it
+abbrev pub runs_back : ℕ → Call → Bool
+runs_back latest = on_timed_quote (λ q. ltb q.time latest) false
 
 -- 6: "Both quote sides stand and the bid isn't below the offer"
 abbrev pub crossed : Call → Bool
@@ -66,12 +77,14 @@ abbrev pub no_accounts : Accounts
 no_accounts = record { missing = false; volume = false; position = false }
 
 -- The sentences in checking order, each with its number, by the closed days, whether the day doesn't allow the call, the halt,
--- the price that a fix finds, and the accounts. An account that isn't there is a value outside its field.
-abbrev pub sentences : ℕ → Bool → Bool → ℕ → Call → Accounts → List (ℕ × Bool)
-sentences closed forbidden halted price c a =
+-- the latest time given in the minute, the price that a fix finds, and the accounts. An account that isn't there is a value outside its
+-- field. 02-4: 11 is "checked right after 5".
+abbrev pub sentences : ℕ → Bool → Bool → ℕ → ℕ → Call → Accounts → List (ℕ × Bool)
+sentences closed forbidden halted latest price c a =
     (3, is_full closed || forbidden)
     ∷ (4, halt_forbids halted c)
     ∷ (5, a.missing || outside_field c)
+    ∷ (11, runs_back latest c)
     ∷ (6, crossed c)
     ∷ (7, a.volume)
     ∷ (8, a.position)
@@ -84,8 +97,8 @@ first_met [] = 0
 first_met (s ∷ rest) = cond s.1 s.0 (first_met rest)
 
 -- the number of a call's refusal where its accounts give none
-abbrev pub refusal_by : ℕ → Bool → Bool → ℕ → Call → ℕ
-refusal_by closed forbidden halted price c = first_met (sentences closed forbidden halted price c no_accounts)
+abbrev pub refusal_by : ℕ → Bool → Bool → ℕ → ℕ → Call → ℕ
+refusal_by closed forbidden halted latest price c = first_met (sentences closed forbidden halted latest price c no_accounts)
 
 -- ---- what the private function promises: the sentences that calls of most kinds can meet
 abbrev pub first_sentences : ℕ → Bool → Bool → Bool → Result Unit Refusal

@@ -1,18 +1,18 @@
-// Which refusal a call meets, by its values and what the book says of it: refusals 3 to 9, where its accounts give none.
+// Which refusal a call meets, by its values and what the book says of it: refusals 3 to 9 and 11, where its accounts give none.
 #![tactic(auto)]
 
 ghost use Rattle.std.specs.Prelude.{◌≡◌, false, cond, Ok, Err};
-ghost use Rattle.refusals.specs.Refusals.{is_full, number_of, refusal_by};
+ghost use Rattle.refusals.specs.Refusals.{is_full, number_of, sides_outside, refusal_by};
 ghost use Rattle.refusals.specs.Refusals.{first_sentences as Refusals·first_sentences};
 ghost use Rattle.refusals.specs.Refusals.{number as Refusals·number};
 
-use calls::{Call, Trade, is_length};
+use calls::{Call, MOST_TIME, TimedQuote, Trade, is_length};
 use funding::market::Market;
 use prices::{none_or_price, none_or_ticked};
 
 pub const MOST_DAYS: u32 = 2_600;
 
-// Why a record, a call, an opening or a report is refused, in document 01's order.
+// Why a record, a call, an opening or a report is refused, by their numbers.
 #[derive(Clone, Copy, Debug, PartialEq, Eq)]
 pub enum Refusal {
     Record,
@@ -25,9 +25,10 @@ pub enum Refusal {
     Position,
     Unpriced,
     Lists,
+    Time,
 }
 
-// Document 01's number.
+// Documents 01 and 02's number.
 impl From<Refusal> for u8 {
     ghost from_gives = { λ refusal n. n ≡ Refusals·number refusal };
 
@@ -43,6 +44,7 @@ impl From<Refusal> for u8 {
             Refusal::Position => 8,
             Refusal::Unpriced => 9,
             Refusal::Lists => 10,
+            Refusal::Time => 11,
         }
     }
 }
@@ -79,42 +81,57 @@ fn first_sentences(
     Refusal::Field.when(outside)
 }
 
-pub fn quote(closed: u32, halted: bool, market: Market) -> Result<(), Refusal>
-    ensures { number_of result ≡ refusal_by closed false halted 0 (Call.Quote market) }
+fn sides_outside(market: Market) -> bool
+    ensures { result ≡ sides_outside market }
 {
-    let ticked = none_or_ticked(market.bid) & none_or_ticked(market.offer);
-    first_sentences(closed, false, halted, !ticked)?;
+    !(none_or_ticked(market.bid) & none_or_ticked(market.offer))
+}
+
+pub fn quote(closed: u32, halted: bool, market: Market) -> Result<(), Refusal>
+    ensures { number_of result ≡ refusal_by closed false halted 0 0 (Call.Quote market) }
+{
+    first_sentences(closed, false, halted, sides_outside(market))?;
     Refusal::Crossed.when(!market.is_uncrossed())
 }
 
+// The refusal of a timed quote where this is the latest time given in its minute.
+pub fn timed_quote(closed: u32, halted: bool, latest: u32, quote: TimedQuote) -> Result<(), Refusal>
+    ensures { number_of result ≡ refusal_by closed false halted latest 0 (Call.TimedQuote quote) }
+{
+    let outside = (MOST_TIME < quote.time) | sides_outside(quote.market);
+    first_sentences(closed, false, halted, outside)?;
+    Refusal::Time.when(quote.time < latest)?;
+    Refusal::Crossed.when(!quote.market.is_uncrossed())
+}
+
 pub fn trade(closed: u32, halted: bool, t: Trade) -> Result<(), Refusal>
-    ensures { number_of result ≡ refusal_by closed false halted 0 (Call.Trade t) }
+    ensures { number_of result ≡ refusal_by closed false halted 0 0 (Call.Trade t) }
 {
     first_sentences(closed, false, halted, t.is_outside())
 }
 
 pub fn halt(closed: u32, halted: bool) -> Result<(), Refusal>
-    ensures { number_of result ≡ refusal_by closed false halted 0 Call.Halt }
+    ensures { number_of result ≡ refusal_by closed false halted 0 0 Call.Halt }
 {
     first_sentences(closed, false, halted, false)
 }
 
 pub fn resume(closed: u32, halted: bool) -> Result<(), Refusal>
-    ensures { number_of result ≡ refusal_by closed false halted 0 Call.Resume }
+    ensures { number_of result ≡ refusal_by closed false halted 0 0 Call.Resume }
 {
     first_sentences(closed, false, !halted, false)
 }
 
 // Here and below, `forbidden` says that the day doesn't allow the call.
 pub fn minute_end(closed: u32, forbidden: bool, index: u32) -> Result<(), Refusal>
-    ensures { number_of result ≡ refusal_by closed forbidden false 0 (Call.MinuteEnd index) }
+    ensures { number_of result ≡ refusal_by closed forbidden false 0 0 (Call.MinuteEnd index) }
 {
     first_sentences(closed, forbidden, false, !none_or_price(index))
 }
 
 // Refusal 4 doesn't name a length of day, so that a halt doesn't stop it.
 pub fn day_length(closed: u32, forbidden: bool, minutes: u32) -> Result<(), Refusal>
-    ensures { number_of result ≡ refusal_by closed forbidden false 0 (Call.DayLength minutes) }
+    ensures { number_of result ≡ refusal_by closed forbidden false 0 0 (Call.DayLength minutes) }
 {
     first_sentences(closed, forbidden, false, !is_length(minutes))
 }
@@ -122,14 +139,14 @@ pub fn day_length(closed: u32, forbidden: bool, minutes: u32) -> Result<(), Refu
 // The refusal of a fix where the price that it finds is this one. The set price is 0 for none, as in its call, and the other one 0
 // where refusal 9 comes.
 pub fn fix(closed: u32, forbidden: bool, set: u32, price: u32) -> Result<(), Refusal>
-    ensures { number_of result ≡ refusal_by closed forbidden false price (Call.Fix set) }
+    ensures { number_of result ≡ refusal_by closed forbidden false 0 price (Call.Fix set) }
 {
     first_sentences(closed, forbidden, false, !none_or_price(set))?;
     Refusal::Unpriced.when(price == 0)
 }
 
 pub fn close(closed: u32, forbidden: bool) -> Result<(), Refusal>
-    ensures { number_of result ≡ refusal_by closed forbidden false 0 Call.Close }
+    ensures { number_of result ≡ refusal_by closed forbidden false 0 0 Call.Close }
 {
     first_sentences(closed, forbidden, false, false)
 }

@@ -14,16 +14,18 @@ use borrow.Author.Differences.{ints}
 use borrow.Author.Tests.{eqb-false, not-true}
 use Rattle.integers.specs.declared.Tie.{Tie}
 use Rattle.integers.specs.declared.Tie.TheVariants.{Even}
+use Rattle.integers.specs.Rounding.{nearest}
 use Rattle.integers.proofs.Sizes.{size, apart, abs_neg}
 use Rattle.integers.proofs.Rounding.{rounded_le, nearest_le, nearest_ge}
 use Rattle.std.proofs.lemmas.Bool.{and_parts, cond_both}
 use Rattle.std.proofs.lemmas.Int.{unsigned_abs-mul}
 use Rattle.prices.specs.Price.{least_price, largest_price, is_price, is_present, none_or_price}
-use Rattle.prices.proofs.Prices.{price_by, none_or_price-price}
+use Rattle.prices.proofs.Prices.{price_by, none_or_price-price, PriceSum}
 use Rattle.funding.specs.declared.Terms.{Terms}
 use Rattle.settlement.specs.declared.FinalMinute.{FinalMinute}
+use Rattle.settlement.specs.declared.Midpoints.{Midpoints}
 use Rattle.settlement.specs.declared.Previous.{Previous}
-use Rattle.settlement.specs.Fixing.{clamped_to, amount_of, average_price, index_price, settlement_price}
+use Rattle.settlement.specs.Fixing.{clamped_to, amount_of, index_price, settlement_price}
 
 -- a clamped rate is within what both sides of the clamp are within
 pub clamped_size : (t : Terms) (r : ℤ) (n : ℕ) → t.below ≤ n → t.above ≤ n → nat_abs (clamped_to t r) ≤ n
@@ -53,11 +55,11 @@ module _ (r : ℤ) (P size : ℕ) (most-rate most-price most-size : ℕ) (hr : n
       rounded_le tie (neg_ℤ r *ℤ pos (P * size)) 100000000000 most (omega arith)
       (omega (arith, unsigned_abs-mul (neg_ℤ r) (pos (P * size)), ap (λ n. n * (P * size)) (abs_neg r), product_size))
 
-average_is_price : (traded : FinalMinute) → is_present traded.contracts ≡ true → least_price * traded.contracts ≤ traded.gross → traded.gross ≤ largest_price * traded.contracts → is_price (average_price traded) ≡ true
-average_is_price traded g l h =
-    let n = traded.contracts in
+average_is_price : (n sum : ℕ) → PriceSum n sum → is_present n ≡ true → none_or_price (nearest Even sum n) ≡ true
+average_is_price n sum p g =
     let some : 0 < n = omega (arith, eqb-false n 0 (not-true (eqb n 0) g)) in
-    price_by (average_price traded) (nearest_ge Even traded.gross n least_price some l) (nearest_le Even traded.gross n largest_price some h)
+    let average = nearest Even sum n in
+    none_or_price-price average (price_by average (nearest_ge Even sum n least_price some p.low) (nearest_le Even sum n largest_price some p.high))
 
 index_is_price : (index : ℕ) (previous : Previous) → none_or_price (index_price index previous) ≡ true
 index_is_price index previous =
@@ -65,11 +67,16 @@ index_is_price index previous =
     let given = is_present index && is_present previous.price && is_present previous.index in
     cond_both (given && is_price p) _ _ (λ q. none_or_price q ≡ true) (λ e. none_or_price-price p (and_parts given (is_price p) e).1) (λ e. refl)
 
--- the settlement price is none or a price, where the set price is and the final minute's contracts were traded at prices
-pub settlement_is_price : (set : ℕ) (traded : FinalMinute) (index : ℕ) (previous : Previous) → none_or_price set ≡ true → least_price * traded.contracts ≤ traded.gross → traded.gross ≤ largest_price * traded.contracts → none_or_price (settlement_price set traded index previous) ≡ true
-settlement_is_price set traded index previous hs l h =
+-- the settlement price is none or a price, where the set price is, and contracts and milliseconds are of prices
+pub settlement_is_price :
+    (set : ℕ) (traded : FinalMinute) (midpoints : Midpoints) (index : ℕ) (previous : Previous)
+    → none_or_price set ≡ true → PriceSum traded.contracts traded.gross → PriceSum midpoints.total midpoints.sum
+    → none_or_price (settlement_price set traded midpoints index previous) ≡ true
+settlement_is_price set traded midpoints index previous hs t m =
     cond_both (is_present set) _ _ (λ p. none_or_price p ≡ true)
     (λ e. hs)
     (λ e. cond_both (is_present traded.contracts) _ _ (λ p. none_or_price p ≡ true)
-    (λ g. none_or_price-price (average_price traded) (average_is_price traded g l h))
-    (λ g. index_is_price index previous))
+    (average_is_price traded.contracts traded.gross t)
+    (λ g. cond_both (is_present midpoints.total) _ _ (λ p. none_or_price p ≡ true)
+    (average_is_price midpoints.total midpoints.sum m)
+    (λ g. index_is_price index previous)))

@@ -1,7 +1,7 @@
--- The record of specs/PriceRules.antt, by computing. Assumes nothing.
+-- The records of specs/PriceRules.antt, by computing. Assumes nothing.
 use mathlib.Core.Path.{refl}
 use Rattle.integers.specs.Rounding.{nearest}
-use Rattle.settlement.specs.PriceRules.{PriceRules}
+use Rattle.settlement.specs.PriceRules.{PriceRules, MidpointRule}
 
 pub price_rules : PriceRules
 unfolding nearest
@@ -20,3 +20,7 @@ price_rules = record {
   at_largest = refl;
   above_largest = refl;
 }
+
+pub midpoint_rule : MidpointRule
+unfolding nearest
+midpoint_rule = record { after_trades = refl; before_index = refl; one_millisecond = refl; no_time = refl; midpoint_tie_up = refl; midpoint_tie_down = refl }

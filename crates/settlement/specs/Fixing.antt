@@ -4,7 +4,7 @@ use lib.{Dec.eqb, IntN.ℤ, IntN.pos, IntN.neg_ℤ, IntN.◌*ℤ◌, Signed.lt_z
 use Rattle.integers.specs.{declared.Tie.Tie, Rounding.half_even, Rounding.nearest, Rounding.rounded, declared.Tie.TheVariants.Even}
 use Rattle.prices.specs.Price.{is_price, is_present}
 use Rattle.funding.specs.declared.Terms.{Terms}
-use Rattle.settlement.specs.{declared.FinalMinute.FinalMinute, declared.Previous.Previous}
+use Rattle.settlement.specs.{declared.FinalMinute.FinalMinute, declared.Midpoints.Midpoints, declared.Previous.Previous}
 
 -- 01: "Rate = half-even of S / (k(k+1)/2), or 0 when k = 0"
 abbrev pub rate_of : ℕ → ℤ → ℤ
@@ -22,6 +22,10 @@ amount_of tie rate P size = rounded tie (neg_ℤ rate *ℤ pos (P * size)) 10000
 abbrev pub average_price : FinalMinute → ℕ
 average_price traded = nearest Even traded.gross traded.contracts
 
+-- 02-4: "The sum over the total, half-even"
+abbrev pub average_midpoint : Midpoints → ℕ
+average_midpoint m = nearest Even m.sum m.total
+
 -- 01: "day's index + previous price − previous index, when all three are nonzero and the result is a price"; 0 otherwise
 abbrev pub index_price : ℕ → Previous → ℕ
 index_price index previous =
@@ -30,6 +34,11 @@ index_price index previous =
     (index + previous.price - previous.index)
     0
 
--- 01: "settlement price P is the set price if given; else, when n > 0, half-even of gross / n; else" by the index; 0 where no rule gives one
-abbrev pub settlement_price : ℕ → FinalMinute → ℕ → Previous → ℕ
-settlement_price set traded index previous = cond (is_present set) set (cond (is_present traded.contracts) (average_price traded) (index_price index previous))
+-- 01: "settlement price P is the set price if given; else, when n > 0, half-even of gross / n; else" by the index; 0 where no rule gives one.
+-- 02-4: the average midpoint is it "if the total is at least 1. … This step stands after trades and before the index step"
+abbrev pub settlement_price : ℕ → FinalMinute → Midpoints → ℕ → Previous → ℕ
+settlement_price set traded midpoints index previous =
+    cond (is_present set) set
+    (cond (is_present traded.contracts) (average_price traded)
+    (cond (is_present midpoints.total) (average_midpoint midpoints)
+    (index_price index previous)))

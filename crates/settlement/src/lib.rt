@@ -5,6 +5,8 @@
 #![tactic(auto)]
 
 ghost use Rattle.std.specs.Prelude.{◌≡◌, ◌*◌, ◌<◌, ◌≤◌, ◌^◌, nat_abs};
+ghost use Rattle.integers.specs.Rounding.{nearest};
+ghost use Rattle.integers.specs.declared.Tie.TheVariants.{Even};
 ghost use Rattle.prices.specs.Price.{largest_price};
 ghost use Rattle.settlement.specs.Fixing.{rate_of, clamped_to, amount_of, index_price, settlement_price};
 
@@ -20,6 +22,14 @@ const AMOUNT_SCALE: i64 = 100_000_000_000;
 pub struct FinalMinute {
     pub contracts: u32,
     pub gross: u64,
+}
+
+// The midpoints of the markets of a day's last minute: the milliseconds that these stood, document 02's total, and
+// midpoint × milliseconds added up, its sum.
+#[derive(Clone, Copy, Default)]
+pub struct Midpoints {
+    pub total: u32,
+    pub sum: u64,
 }
 
 // The settlement price and the index of the closed day before, 0 without one.
@@ -71,18 +81,35 @@ fn index_price(index: u32, previous: Previous) -> u32
     }
 }
 
-// The settlement price by its three rules in order, or 0 where none gives one: no Option, since an average below a half is 0 too,
-// and refusal 9 is of both. What contracts of the final minute were
-// traded for has to be at most what they cost at the largest price: their average is then no larger than a price.
-pub fn settlement_price(set: u32, traded: FinalMinute, index: u32, previous: Previous) -> u32
-    requires { traded.gross ≤ largest_price * traded.contracts }
-    ensures { result ≡ settlement_price set traded index previous }
+// The average of so many prices, of contracts or of milliseconds, that add up to this sum. The sum has to be at most what it is at the
+// largest price: the average is then no larger than a price.
+fn average(sum: u64, count: u32) -> u32
+    requires { (0 < count) × (sum ≤ largest_price * count) }
+    ensures { result ≡ nearest Even sum count }
+{
+    integers::half_even(sum as i64, i64::from(count)) as u32
+}
+
+// The settlement price by its four rules in order, or 0 where none gives one: no Option, since an average below a half is 0 too,
+// and refusal 9 is of both.
+pub fn settlement_price(
+    set: u32,
+    traded: FinalMinute,
+    midpoints: Midpoints,
+    index: u32,
+    previous: Previous,
+) -> u32
+    requires { (traded.gross ≤ largest_price * traded.contracts) × (midpoints.sum ≤ largest_price * midpoints.total) }
+    ensures { result ≡ settlement_price set traded midpoints index previous }
 {
     if set != 0 {
         return set;
     }
     if traded.contracts != 0 {
-        return integers::half_even(traded.gross as i64, i64::from(traded.contracts)) as u32;
+        return average(traded.gross, traded.contracts);
+    }
+    if midpoints.total != 0 {
+        return average(midpoints.sum, midpoints.total);
     }
     index_price(index, previous)
 }

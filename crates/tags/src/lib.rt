@@ -16,6 +16,7 @@ pub enum Tag {
     Fix,
     Close,
     DayLength,
+    TimedQuote,
 }
 
 // A byte that is no known tag's.
@@ -35,6 +36,7 @@ impl From<Tag> for u8 {
             Tag::Fix => 6,
             Tag::Close => 7,
             Tag::DayLength => 8,
+            Tag::TimedQuote => 9,
         }
     }
 }
@@ -55,6 +57,7 @@ impl TryFrom<u8> for Tag {
             6 => Ok(Tag::Fix),
             7 => Ok(Tag::Close),
             8 => Ok(Tag::DayLength),
+            9 => Ok(Tag::TimedQuote),
             _ => Err(UnknownTag(byte)),
         }
     }
@@ -74,6 +77,7 @@ impl Tag {
             Tag::Fix => 4,
             Tag::Close => 0,
             Tag::DayLength => 2,
+            Tag::TimedQuote => 10,
         }
     }
 }

@@ -19,7 +19,9 @@ use Rattle.funding.specs.Market.{two_sided, is_valid}
 use Rattle.figures.proofs.Held.{held_figures}
 use Rattle.outcomes.proofs.Passed.{passed_figures}
 use Rattle.day.proofs.Held.{day_most}
+use Rattle.calls.specs.Time.{minute_length}
 use Rattle.day_effects.proofs.Keeping.{accrues}
+use Rattle.day_effects.proofs.Timing.{room}
 use Rattle.outcomes.proofs.minute_end.Goals as goal
 
 -- a valid minute has an index
@@ -48,5 +50,6 @@ minute_ended-requires c =
       ended = omega (arith, day_most d h.day);
       count = omega (arith, h.day.ended, h.day.valid, day_most d h.day);
       present = λ e. present f u (valid e);
+      time = room d h.day minute_length (omega (arith, h.day.latest)) (omega arith);
       accrues = λ e. accrues d h.day (terms_on f) f.halted u before (not-false (none_or_price u) p.field) (valid e);
     }

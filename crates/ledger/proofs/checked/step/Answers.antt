@@ -11,6 +11,9 @@ trade-requires c = tradable _ c.requires c.in-Trade.trade (search rules) (search
 pub minute_end-requires : goal.minute_end-requires
 minute_end-requires c = figures_held _ c.requires
 
+pub timed_quote-requires : goal.timed_quote-requires
+timed_quote-requires c = figures_held _ c.requires
+
 pub fix-requires : goal.fix-requires
 fix-requires c = fixable _ c.requires
 
@@ -40,6 +43,10 @@ returns-in-Fix c = on_figures c.requires c.in-Fix.is _ refl refl c.fix.ensures
 pub returns-in-DayLength : goal.returns-in-DayLength
 unfolding effect
 returns-in-DayLength c = on_figures c.requires c.in-DayLength.is _ refl refl c.day_length.ensures
+
+pub returns-in-TimedQuote : goal.returns-in-TimedQuote
+unfolding effect
+returns-in-TimedQuote c = on_figures c.requires c.in-TimedQuote.is _ refl refl c.timed_quote.ensures
 
 pub returns-in-Trade : goal.returns-in-Trade
 returns-in-Trade c = trade-answered c.requires c.in-Trade.is c.trade.ensures
