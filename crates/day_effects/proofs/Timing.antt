@@ -6,22 +6,22 @@
 --     stood_total                 their total
 -- Assumes nothing.
 use mathlib.Core.Path.{◌≡◌}
-use mathlib.Core.Bool.{Bool, true, ◌||◌}
+use mathlib.Core.Bool.{Bool, true}
 use mathlib.Core.List.{[], ◌∷◌}
 use Prim.Native.Nat.{ℕ, ◌+◌, ◌-◌, ◌*◌, ◌<◌, ◌≤◌}
 use native.Mathlib.Nat.{mul-le-mul}
 use native.Mathlib.Omega.{arith}
-use lib.Dec.{ltb, eqb}
+use lib.Dec.{ltb}
 use borrow.Author.Tests.{eqb-false}
 use Rattle.std.proofs.lemmas.Bool.{cond_both}
 use Rattle.integers.proofs.Tests.{tests, each}
-use Rattle.prices.specs.Price.{least_price, largest_price, is_present, none_or_price}
+use Rattle.prices.specs.Price.{least_price, largest_price, is_present}
 use Rattle.prices.proofs.Prices.{PriceSum, the_price, price_to, price_most}
 use Rattle.funding.specs.Market.{two_sided, midpoint, market_holds, minute_market_holds}
 use Rattle.settlement.specs.declared.Midpoints.{Midpoints}
-use Rattle.calls.specs.Time.{most_time, minute_length}
+use Rattle.calls.specs.Time.{minute_length}
 use Rattle.day.specs.declared.Day.{Day}
-use Rattle.day.specs.Day.{day_length, in_last_minute, with_market}
+use Rattle.day.specs.Day.{day_length, in_last_minute}
 use Rattle.day.specs.Limits.{most_total}
 use Rattle.day.proofs.Held.{HeldDay, held_market}
 use Rattle.day_effects.specs.Effects.{stood_until}

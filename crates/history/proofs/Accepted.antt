@@ -33,7 +33,8 @@ one_more : (n s : ℕ) (h : History) (c : Call) (cs : List Call) (x : Bool)
     let h' = reverse_aux (keep_if x c (accepted_calls n b cs)) h in
     (run n b cs ≡ book_from n s h') × AllPassed n s h'
 one_more n s h c cs true e rest a =
-    let r = subst (λ (b : Book). After n s b (c ∷ h) cs) (sym (effect_is n s h c)) (rest (c ∷ h) (passed n (book_from n s h) c (e refl), a)) in
+    let p = passed n (book_from n s h) c (e refl) in
+    let r = subst (λ (b : Book). After n s b (c ∷ h) cs) (sym (effect_is n s h c p)) (rest (c ∷ h) (p, a)) in
     (r.book_is, r.all_passed)
 one_more n s h c cs false e rest a = ((rest h a).book_is, (rest h a).all_passed)
 

@@ -8,6 +8,7 @@ use lib.ListN.{length}
 use borrow.Author.Tests.{eqb-true, not-false}
 use Rattle.integers.specs.Lists.{Every}
 use Rattle.std.proofs.lemmas.Bool.{or_parts}
+use Rattle.integers.proofs.Tests.{tests}
 use Rattle.prices.specs.Price.{is_present}
 use Rattle.calls.specs.declared.Call.TheVariants as call
 use Rattle.calls.specs.Calls.{on_close}
@@ -19,7 +20,7 @@ use Rattle.ledger.proofs.Passed.{Passed}
 use Rattle.history.specs.History.{History, Moment, length_of, closings, today, fixes, minutes}
 use Rattle.history.specs.Cash.{at_fix, price_on}
 use Rattle.history.specs.Demand3.{calls_of_days, Whole}
-use Rattle.history.proofs.Kept.{figures_from, book_from}
+use Rattle.history.proofs.Kept.{figures_from, book_from, fix_price-price_at}
 use Rattle.history.proofs.Accepted.{AllPassed}
 
 -- ---- every call is in one day
@@ -50,11 +51,12 @@ unfolding closings fixes at_fix
 one_fix n s [] a = refl
 one_fix n s (c ∷ h) a = by (one_fix n s h a.1) (fix_or c) (close_or c)
   where
-    fixes-fix : (set : ℕ) → length (fixes h) ≡ cond (is_present (price_on h)) 1 0 → Passed n (book_from n s h) (call.Fix set) → suc (length (fixes h)) ≡ cond (is_present (fix_price (figures_from s h) set)) 1 0
+    fixes-fix : (set : ℕ) → length (fixes h) ≡ cond (is_present (price_on h)) 1 0 → Passed n (book_from n s h) (call.Fix set) → suc (length (fixes h)) ≡ cond (is_present (price_on (call.Fix set ∷ h))) 1 0
     fixes-fix set rest p =
-        let unfixed = (or_parts (ltb (minutes h) (length_of h)) (is_present (price_on h)) p.sentences.day).1 in
-        ap suc (rest ∙ ap (λ (x : Bool). cond x 1 0) unfixed)
+        let day = or_parts (ltb (minutes h) (length_of h)) (is_present (price_on h)) p.sentences.day in
+        ap suc (rest ∙ ap (λ (x : Bool). cond x 1 0) day.1)
         ∙ sym (ap (λ (x : Bool). cond x 1 0) (not-false (is_present (fix_price (figures_from s h) set)) p.sentences.price))
+        ∙ ap (λ P. cond (is_present P) 1 0) (fix_price-price_at s h set (omega (tests, day.0)))
 
     by : length (fixes h) ≡ cond (is_present (price_on h)) 1 0 → FixOr c → CloseOr c → length (fixes (c ∷ h)) ≡ cond (is_present (price_on (c ∷ h))) 1 0
     by rest (fix set e) k = rw e (fixes-fix set rest (rw e at a.0))

@@ -2,10 +2,13 @@
 use mathlib.Core.Path.{◌≡◌, refl, sym, ◌∙◌, ap}
 use mathlib.Core.Bool.{Bool, true, false, cond}
 use mathlib.Core.List.{List, [], ◌∷◌}
-use Prim.Native.Nat.{ℕ, ◌+◌, ◌*◌, ◌<◌}
+use Prim.Native.Nat.{ℕ, ◌+◌, ◌*◌, ◌<◌, ◌≤◌}
 use native.Mathlib.Nat.{add_assoc}
 use native.Mathlib.Numerals.{add-one}
-use lib.Dec.{eqb}
+use lib.Dec.{leb, ltb, eqb}
+use borrow.Author.Tests.{eqb-true, not-false}
+use Rattle.std.proofs.lemmas.Bool.{and_parts}
+use Rattle.integers.proofs.Tests.{tests, none}
 use lib.IntN.{ℤ, pos, neg_ℤ, ◌+ℤ◌, ◌-ℤ◌, ◌*ℤ◌, +ℤ_assoc, +ℤ_invr}
 use lib.ListN.{length, replicate, set}
 use Rattle.integers.specs.Lists.{keep_if, sum_count, sum}
@@ -18,9 +21,12 @@ use Rattle.calls.specs.declared.Call.TheVariants as call
 use Rattle.calls.specs.declared.Trade.{Trade}
 use Rattle.calls.specs.declared.Call.{Call}
 use Rattle.calls.proofs.Calls.{TradeOr, CloseOr, trade, close, trade_or, close_or}
-use Rattle.day.specs.Day.{is_final, minute_of}
-use Rattle.day_effects.specs.Effects.{traded, minute_ended}
-use Rattle.outcomes.specs.Effects.{figures_after}
+use Rattle.calls.specs.Length.{full_day, is_length}
+use Rattle.settlement.specs.Fixing.{amount_of, settlement_price}
+use Rattle.figures.specs.Fixing.{fix_price}
+use Rattle.day.specs.Day.{is_fixed, is_final, minute_of}
+use Rattle.day_effects.specs.Effects.{with_minutes, with_trades, with_fixed, with_timing, traded, minute_ended}
+use Rattle.outcomes.specs.Effects.{with_day, figures_after}
 use Rattle.calls.proofs.Calls as calls
 use Rattle.closing.specs.Closing.{posting, posted}
 use Rattle.columns.proofs.Accounts.{table_at}
@@ -28,8 +34,12 @@ use Rattle.counterparties.specs.Counterparties.{exchanged, counted}
 use Rattle.ledger.specs.declared.Book.{Book}
 use Rattle.ledger.specs.Effects.{with_figures, traded_book, closed_book, effect}
 use Rattle.ledger.specs.Step.{fresh}
-use Rattle.history.specs.History.{History, length_of, begun, halted, market, minute_market, last, closings, today, closed_part, trades, minute_ends, fixes, minutes, ends_valid, valid_of, valid_minutes, final_trades}
-use Rattle.history.specs.Cash.{final_minute, index_of, index_on, at_fix, previous_of, price_on, last_price, amount_on, of_account, signed, net, yield, paid, cash_of}
+use Rattle.ledger.proofs.Held.{held}
+use Rattle.ledger.proofs.Passed.{Passed}
+use Rattle.history.specs.History.{History, length_of, begun, halted, market, minute_market, last, closings, today, closed_part, trades, minute_ends, fixes, minutes, at_last_end, ends_valid, valid_of, valid_minutes, final_trades, tie_of}
+use Rattle.history.specs.Cash.{final_minute, index_on, price_at, at_fix, previous_of, price_on, last_price, rate_on, amount_on, of_account, signed, net, yield, paid, cash_of}
+use Rattle.history.specs.LastMinute.{latest, minute_markets, stood}
+use Rattle.history.proofs.LastMinute.{midpoints_from, after_quote, after_timed, after_minute, after_length, at_fix_time}
 use Rattle.history.proofs.Columns.{table_ext, replicate_table, raise_table, raise_count_table}
 
 -- ---- the book of a history
@@ -41,6 +51,7 @@ day_from s h = record {
   trades = record { last = last h; settling = final_minute (final_trades h) };
   fixed = record { price = price_on h; amount = amount_on s h };
   session = record { length = length_of h; begun = begun h };
+  timing = record { latest = latest h; midpoints = midpoints_from h };
 }
 
 abbrev pub figures_from : ℕ → History → Figures
@@ -99,31 +110,41 @@ module _ (s : ℕ) (h : History) where
   unfolding minute_ends valid_of weighted_sum
   weighted-minute_ended u = if_ap weighted_sum (ends u) (minute_of (minute_market h) (last h) u) (valid_minutes h)
 
-  pub figures_after-figures_from : (c : Call) → figures_after (figures_from s h) c ≡ figures_from s (c ∷ h)
-  unfolding figures_after length_of begun halted market minute_market last closings minute_ends fixes final_trades index_of at_fix previous_of valid_of sum_count weighted_sum
-  figures_after-figures_from (call.Quote m) = refl
-  figures_after-figures_from (call.Trade t) = cc (final_after t)
-  figures_after-figures_from call.Halt = refl
-  figures_after-figures_from call.Resume = refl
-  figures_after-figures_from (call.MinuteEnd u) =
+  -- the price of a fix that comes after the day's last minute
+  pub fix_price-price_at : (set : ℕ) → length_of h ≤ minutes h → fix_price (figures_from s h) set ≡ price_at (previous_of (closings h)) (record { value = set; before = h })
+  fix_price-price_at set over = ap (λ m. settlement_price set (final_minute (final_trades h)) m (index_on h) (previous_of (closings h))) (at_fix_time h over)
+
+  -- an accepted call leads to the figures of its history: a part of the day at a time
+  pub figures_after-figures_from : (n : ℕ) (c : Call) → Passed n (book_from n s h) c → figures_after (figures_from s h) c ≡ figures_from s (c ∷ h)
+  unfolding figures_after length_of begun halted market minute_market last closings minute_ends fixes final_trades at_last_end at_fix previous_of valid_of sum_count weighted_sum latest minute_markets stood
+  figures_after-figures_from n (call.Quote m) p =
+      let f = figures_after (figures_from s h) (call.Quote m) in
+      λ i. with_day f f.halted (with_timing f.day (record { latest = latest h; midpoints = after_quote h m i }))
+  figures_after-figures_from n (call.Trade t) p =
+      let f = figures_after (figures_from s h) (call.Trade t) in
+      λ i. with_day f f.halted (with_trades f.day (record { last = f.day.trades.last; settling = final_after t i }))
+  figures_after-figures_from n call.Halt p = refl
+  figures_after-figures_from n call.Resume p = refl
+  figures_after-figures_from n (call.MinuteEnd u) p =
       let f = figures_after (figures_from s h) (call.MinuteEnd u) in
-      let d = f.day in
-      λ i. record {
-        size = s;
-        closed = f.closed;
-        halted = f.halted;
-        previous = f.previous;
-        day = record {
-          markets = d.markets;
-          minutes = record { ended = add-one (minutes h) i; valid = valid_after u i; weighted = weighted-minute_ended u i; index = d.minutes.index };
-          trades = d.trades;
-          fixed = d.fixed;
-          session = d.session;
-        };
-      }
-  figures_after-figures_from (call.Fix set) = refl
-  figures_after-figures_from call.Close = cc (add-one (length (closings h)))
-  figures_after-figures_from (call.DayLength l) = refl
+      let before : minutes h < length_of h = omega (tests, none (leb (length_of h) (minutes h)) (is_fixed (day_from s h) ∷ []) p.sentences.day 0) in
+      λ i. with_day f f.halted
+        (with_timing (with_minutes f.day (record { ended = add-one (minutes h) i; valid = valid_after u i; weighted = weighted-minute_ended u i; index = f.day.minutes.index }))
+        (record { latest = 0; midpoints = after_minute h u before i }))
+  figures_after-figures_from n (call.Fix set) p =
+      let f = figures_after (figures_from s h) (call.Fix set) in
+      let over : length_of h ≤ minutes h = omega (tests, none (ltb (minutes h) (length_of h)) (is_fixed (day_from s h) ∷ []) p.sentences.day 0) in
+      λ i. with_day f f.halted (with_fixed f.day (record { price = fix_price-price_at set over i; amount = amount_of (tie_of h) (rate_on h) (fix_price-price_at set over i) s }))
+  figures_after-figures_from n call.Close p = cc (add-one (length (closings h)))
+  figures_after-figures_from n (call.DayLength l) p =
+      let f = figures_after (figures_from s h) (call.DayLength l) in
+      let d = (held n (book_from n s h) p.limits).figures.day in
+      let start = and_parts (eqb (length_of h) full_day) (eqb (minutes h) 0) (rw p.sentences.day at d.start) in
+      let same = after_length h l d.length (not-false (is_length l) p.sentences.field) (eqb-true (minutes h) 0 start.1) in
+      λ i. with_day f f.halted (with_timing f.day (record { latest = latest h; midpoints = same i }))
+  figures_after-figures_from n (call.TimedQuote q) p =
+      let f = figures_after (figures_from s h) (call.TimedQuote q) in
+      λ i. with_day f f.halted (with_timing f.day (record { latest = q.time; midpoints = after_timed h q i }))
 
 -- ---- the columns after a trade
 
@@ -202,15 +223,15 @@ cost_closed n h = replicate_table n (pos 0) ∙ table_ext n (λ j. pos 0) (cost_
 
 -- ---- the book, call by call
 
-pub effect_is : (n s : ℕ) (h : History) (c : Call) → effect n (book_from n s h) c ≡ book_from n s (c ∷ h)
+pub effect_is : (n s : ℕ) (h : History) (c : Call) → Passed n (book_from n s h) c → effect n (book_from n s h) c ≡ book_from n s (c ∷ h)
 unfolding effect closings today closed_part trades sum_count sum
-effect_is n s h c = by (trade_or c) (close_or c)
+effect_is n s h c passed = by (trade_or c) (close_or c)
   where
     by : TradeOr c → CloseOr c → effect n (book_from n s h) c ≡ book_from n s (c ∷ h)
-    by (trade t e) k = rw e (cc (figures_after-figures_from s h (call.Trade t), exchanged_table n (net h) t t.quantity, cost_traded n h t, counted_table n (volume_of h) t))
+    by (trade t e) k = rw e (cc (figures_after-figures_from s h n (call.Trade t) (rw e at passed), exchanged_table n (net h) t t.quantity, cost_traded n h t, counted_table n (volume_of h) t))
     by (calls.TradeOr.other o) (close e) =
         rw e
-        (cc (figures_after-figures_from s h call.Close, cost_closed n h, replicate_table {A = ℕ} n 0, table_ext n (cash_after (book_from n s h)) (cash_of s (call.Close ∷ h)) (cash_closed n s h)))
+        (cc (figures_after-figures_from s h n call.Close (rw e at passed), cost_closed n h, replicate_table {A = ℕ} n 0, table_ext n (cash_after (book_from n s h)) (cash_of s (call.Close ∷ h)) (cash_closed n s h)))
     by (calls.TradeOr.other o) (calls.CloseOr.other k) =
         let b = book_from n s h in
         let f = figures_after (figures_from s h) c in
@@ -219,7 +240,7 @@ effect_is n s h c = by (trade_or c) (close_or c)
         let todays : trades (today h) ≡ trades (today (c ∷ h)) = sym (ap trades (k History [] (c ∷ today h)) ∙ o (List Trade) (λ t. t ∷ trades (today h)) (trades (today h))) in
         o Book (traded_book b f) _ ∙ k Book (closed_book n b f) (with_figures b f)
         ∙ (λ i. record {
-          figures = figures_after-figures_from s h c i;
+          figures = figures_after-figures_from s h n c passed i;
           columns = record {
             opening = table n (net (closed_part (days i)));
             position = table n (λ j. sum (signed j) (all i));
@@ -230,5 +251,5 @@ effect_is n s h c = by (trade_or c) (close_or c)
         })
 
 pub fresh_is : (n s : ℕ) → fresh n s ≡ book_from n s []
-unfolding length_of begun halted market minute_market last closings today closed_part trades minute_ends fixes valid_of final_trades sum_count sum index_of at_fix previous_of weighted_sum
+unfolding length_of begun halted market minute_market last closings today closed_part trades minute_ends fixes valid_of final_trades sum_count sum at_last_end at_fix previous_of weighted_sum latest minute_markets stood
 fresh_is n s = cc (replicate_table n (pos 0), replicate_table {A = ℕ} n 0)

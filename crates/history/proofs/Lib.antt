@@ -1,5 +1,6 @@
 pub mod Columns
 pub mod Sums
+pub mod LastMinute
 pub mod Kept
 pub mod Accepted
 pub mod Days

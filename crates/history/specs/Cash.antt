@@ -7,24 +7,20 @@ use Rattle.integers.specs.Lists.{sum_count, sum}
 use Rattle.funding.specs.Minute.{weighted_sum}
 use Rattle.settlement.specs.{declared.FinalMinute.FinalMinute, declared.Previous.Previous, Fixing.rate_of, Fixing.clamped_to, Fixing.amount_of, Fixing.settlement_price}
 use Rattle.calls.specs.declared.Trade.{Trade}
-use Rattle.day.specs.Day.{in_last_minute}
-use Rattle.history.specs.History.{History, Moment, length_of, terms_of, tie_of, closings, closed_part, trades, minute_ends, fixes, valid_minutes, final_trades}
+use Rattle.history.specs.History.{History, Moment, terms_of, tie_of, closings, closed_part, trades, minute_ends, at_last_end, fixes, valid_minutes, final_trades}
+use Rattle.history.specs.LastMinute.{midpoints_on}
 
 -- 01: "n and gross add up its final-minute kind 0 trades"
 abbrev pub final_minute : List Trade → FinalMinute
 final_minute ts = record { contracts = sum_count (λ t. t.quantity) ts; gross = sum_count (λ t. t.quantity * t.price) ts }
 
 -- 01: "The u of" the last minute "is the day's index", 0 before it
-unfoldable pub index_of : List Moment → ℕ
-index_of [] = 0
-index_of (m ∷ ms) = cond (in_last_minute (length_of m.before) (length ms)) m.value (index_of ms)
-
 abbrev pub index_on : History → ℕ
-index_on h = index_of (minute_ends h)
+index_on h = at_last_end 0 (λ m. m.value) (minute_ends h)
 
 -- P at a fix, with the price and the index of the closed day before
 abbrev pub price_at : Previous → Moment → ℕ
-price_at previous fix = settlement_price fix.value (final_minute (final_trades fix.before)) (index_on fix.before) previous
+price_at previous fix = settlement_price fix.value (final_minute (final_trades fix.before)) (midpoints_on fix.before) (index_on fix.before) previous
 
 -- f of the day's fix, `none` before it
 unfoldable pub at_fix : {A : Type 0} → A → (Moment → A) → List Moment → A

@@ -5,7 +5,7 @@ use Rattle.std.specs.Prelude.{ℕ, length}
 use Rattle.integers.specs.{declared.Tie.Tie, declared.Tie.TheVariants.Even, Lists.keep_if}
 use Rattle.funding.specs.{declared.Terms.Terms, Terms.standard_terms, Minute.Minute, declared.market.Market.Market, Market.no_market, Market.as_minute, Market.is_valid}
 use Rattle.calls.specs.{declared.Trade.Trade, Trade.is_simple, declared.Call.Call, Calls.on_quote, Calls.on_trade, Calls.on_halt, Calls.on_resume, Calls.by_call, Calls.on_minute_end, Calls.on_fix, Calls.on_close, Calls.on_day_length, Length.full_day}
-use Rattle.day.specs.Day.{is_final, minute_of}
+use Rattle.day.specs.Day.{in_last_minute, is_final, minute_of}
 
 abbrev pub History : Type 0
 History = List Call
@@ -20,7 +20,7 @@ length_of (c ∷ h) = on_day_length (λ l. l) (on_close full_day (length_of h) c
 -- 02-1: "whether such a call or record has come": a "quote, trade, halt, resume or minute end", or a length of day
 unfoldable pub begun : History → Bool
 begun [] = false
-begun (c ∷ h) = by_call (λ m. true) (λ t. true) true true (λ u. true) (λ set. begun h) false (λ l. true) c
+begun (c ∷ h) = by_call (λ m. true) (λ t. true) true true (λ u. true) (λ set. begun h) false (λ l. true) (λ q. true) c
 
 -- ---- the numbers in force on the open day: document 01's on every day
 
@@ -95,6 +95,11 @@ fixes (c ∷ h) = on_fix (λ set. record { value = set; before = h } ∷ fixes h
 -- the open day's ended minutes
 abbrev pub minutes : History → ℕ
 minutes h = length (minute_ends h)
+
+-- f of the day's last minute end, `none` before it
+unfoldable pub at_last_end : {A : Type 0} → A → (Moment → A) → List Moment → A
+at_last_end none f [] = none
+at_last_end none f (m ∷ ms) = cond (in_last_minute (length_of m.before) (length ms)) (f m) (at_last_end none f ms)
 
 -- 01: "the minute is valid when the book isn't halted, the minute's market (b, a) exists, u is not 0, and" its spread is within the limit
 abbrev pub ends_valid : Moment → Bool

@@ -1,3 +1,4 @@
 pub mod History
+pub mod LastMinute
 pub mod Cash
 pub mod Demand3
