@@ -1,5 +1,7 @@
 //! A book that its calls change in place.
 
+use crate::market::{Market, Midpoints, MINUTE};
+use crate::price::{is_price, TICK};
 use crate::settlement::{amount, average, basis, rate};
 use dayformat::kind::{BLOCK, SIMPLE, SPREAD};
 use reference::refusal::{CROSSED, DAY, FIELD, HALT, NO_PRICE, POSITION, VOLUME};
@@ -9,22 +11,16 @@ pub const ACCOUNTS: usize = 256;
 pub const FULL_DAY: u32 = 1_320;
 const SHORT_DAY: u32 = 1_140;
 const MOST_DAYS: u32 = 2_600;
-const LEAST_PRICE: u32 = 5_000;
-const LARGEST_PRICE: u32 = 50_000_000;
-const TICK: u32 = 10;
 const MOST_QUANTITY: u32 = 100_000;
 const LEAST_BLOCK: u32 = 250;
 const MOST_VOLUME: u32 = 2_000_000;
 const MOST_POSITION: i64 = 1_200_000;
 
+/// The refusal of a time that runs back within its minute.
+const TIME: u8 = 11;
+
 /// Nothing, or the number of the refusal.
 pub type Answer = Result<(), u8>;
-
-#[derive(Clone, Copy, Default)]
-pub struct Market {
-    pub bid: u32,
-    pub offer: u32,
-}
 
 #[derive(Clone, Copy)]
 pub struct Trade {
@@ -45,9 +41,12 @@ struct Day {
     weighted: i64,
     market: Market,
     minute: Market,
+    /// The latest time given in the open minute.
+    time: u32,
     last: u32,
     contracts: u32,
     gross: u64,
+    midpoints: Midpoints,
     index: u32,
     price: u32,
     amount: i64,
@@ -75,34 +74,6 @@ fn refused_if(met: bool, number: u8) -> Answer {
     }
 }
 
-fn is_price(value: u32) -> bool {
-    (LEAST_PRICE..=LARGEST_PRICE).contains(&value)
-}
-
-fn is_ticked(value: u32) -> bool {
-    is_price(value) && value.is_multiple_of(TICK)
-}
-
-impl Market {
-    fn is_two_sided(self) -> bool {
-        self.bid != 0 && self.offer != 0
-    }
-
-    /// A two-sided market within the spread limit.
-    fn is_valid(self) -> bool {
-        let (bid, offer) = (u64::from(self.bid), u64::from(self.offer));
-        self.is_two_sided() && 400 * (offer - bid) <= bid + offer
-    }
-
-    fn futures_price(self, last: u32) -> u32 {
-        if self.bid <= last && last <= self.offer {
-            last
-        } else {
-            (self.bid + self.offer) / 2
-        }
-    }
-}
-
 impl Day {
     fn new() -> Self {
         Day {
@@ -114,6 +85,14 @@ impl Day {
     /// Whether a call has come after which the length is late.
     fn has_begun(&self) -> bool {
         self.begun || self.left != FULL_DAY
+    }
+
+    fn set_market(&mut self, market: Market) {
+        self.begun = true;
+        self.market = market;
+        if market.is_two_sided() {
+            self.minute = market;
+        }
     }
 }
 
@@ -165,15 +144,27 @@ impl Book {
     pub fn quote(&mut self, market: Market) -> Answer {
         refused_if(self.is_full(), DAY)?;
         refused_if(self.halted, HALT)?;
-        let stands = |side| side == 0 || is_ticked(side);
-        refused_if(!stands(market.bid) || !stands(market.offer), FIELD)?;
-        let two_sided = market.is_two_sided();
-        refused_if(two_sided && market.bid >= market.offer, CROSSED)?;
-        self.day.begun = true;
-        self.day.market = market;
-        if two_sided {
-            self.day.minute = market;
+        refused_if(!market.is_in_field(), FIELD)?;
+        refused_if(market.is_crossed(), CROSSED)?;
+        self.day.set_market(market);
+        Ok(())
+    }
+
+    /// The time is milliseconds into the minute.
+    #[inline]
+    pub fn timed_quote(&mut self, time: u16, market: Market) -> Answer {
+        let time = u32::from(time);
+        refused_if(self.is_full(), DAY)?;
+        refused_if(self.halted, HALT)?;
+        refused_if(time >= MINUTE || !market.is_in_field(), FIELD)?;
+        refused_if(time < self.day.time, TIME)?;
+        refused_if(market.is_crossed(), CROSSED)?;
+        let day = &mut self.day;
+        if day.left == 1 {
+            day.midpoints.add(day.market, time - day.time);
         }
+        day.time = time;
+        day.set_market(market);
         Ok(())
     }
 
@@ -246,7 +237,9 @@ impl Book {
         };
         if day.left == 0 {
             day.index = index;
+            day.midpoints.add(day.market, MINUTE - day.time);
         }
+        day.time = 0;
         Ok(())
     }
 
@@ -265,7 +258,10 @@ impl Book {
         if set_price != 0 {
             return Some(set_price);
         }
-        average(self.day.gross, self.day.contracts).or_else(|| self.index_price())
+        let day = &self.day;
+        average(day.gross, day.contracts)
+            .or_else(|| day.midpoints.average())
+            .or_else(|| self.index_price())
     }
 
     fn index_price(&self) -> Option<u32> {

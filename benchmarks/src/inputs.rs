@@ -1,6 +1,7 @@
 //! The files that are timed. Every record of them is accepted.
 
 use crate::book::FULL_DAY;
+use crate::market::MINUTE;
 use dayformat::{kind, Writer};
 use differential::random::Random;
 
@@ -28,6 +29,7 @@ pub fn all() -> Vec<Input> {
             20,
             traded_minute(4, 256),
         ),
+        day_of_midpoints("a day with four timed quotes a minute", timed_minute),
         days("2,600 days, market quoted", 2_600, quoted_minute),
         days("2,600 days, no market", 2_600, empty_minute),
     ]
@@ -58,6 +60,12 @@ impl File {
         self.records += 1;
     }
 
+    fn timed_quote(&mut self, time: u32) {
+        let bid = self.near() / 10 * 10;
+        self.writer.timed_quote(time as u16, bid, bid + 1_000);
+        self.records += 1;
+    }
+
     fn trade(&mut self, accounts: u32) {
         let buyer = self.random.below(accounts);
         let seller = (buyer + 1 + self.random.below(accounts - 1)) % accounts;
@@ -80,6 +88,15 @@ fn empty_minute(file: &mut File, _minute: u32) {
     file.minute_end();
 }
 
+fn timed_minute(file: &mut File, _minute: u32) {
+    let mut times = [(); 4].map(|()| file.random.below(MINUTE));
+    times.sort();
+    for time in times {
+        file.timed_quote(time);
+    }
+    file.minute_end();
+}
+
 fn traded_minute(trades: u32, accounts: u32) -> impl Fn(&mut File, u32) {
     move |file, minute| {
         quoted_minute(file, minute);
@@ -91,16 +108,30 @@ fn traded_minute(trades: u32, accounts: u32) -> impl Fn(&mut File, u32) {
 
 /// A file of days, each with its minutes, a fix with a set price and a close.
 fn days(name: &'static str, count: u32, minute: impl Fn(&mut File, u32)) -> Input {
+    input(name, count, minute, File::near)
+}
+
+/// A day whose fix finds no price but that of the last minute's midpoints.
+fn day_of_midpoints(name: &'static str, minute: impl Fn(&mut File, u32)) -> Input {
+    input(name, 1, minute, |_| 0)
+}
+
+fn input(
+    name: &'static str,
+    days: u32,
+    minute: impl Fn(&mut File, u32),
+    set_price: impl Fn(&mut File) -> u32,
+) -> Input {
     let mut file = File {
         random: Random::new(1),
         writer: Writer::new(),
         records: 0,
     };
-    for _ in 0..count {
+    for _ in 0..days {
         for number in 0..FULL_DAY {
             minute(&mut file, number);
         }
-        let set_price = file.near();
+        let set_price = set_price(&mut file);
         file.writer.fix(set_price).close();
         file.records += 2;
     }

@@ -5,7 +5,9 @@
 
 mod book;
 pub mod inputs;
+mod market;
 mod play;
+mod price;
 mod settlement;
 
 pub use book::ACCOUNTS;

@@ -1,6 +1,7 @@
 //! Reads a file's records and plays them.
 
-use crate::book::{Answer, Book, Market, Trade, ACCOUNTS};
+use crate::book::{Answer, Book, Trade, ACCOUNTS};
+use crate::market::Market;
 use dayformat::{body_length, header, length, tag};
 use reference::refusal::FILE;
 
@@ -63,6 +64,11 @@ fn call<'a>(book: &mut Book, file: &'a [u8]) -> Option<(Answer, &'a [u8])> {
         [tag::QUOTE, 0, length::QUOTE, a, b, c, d, e, f, g, h, ref next @ ..] => {
             let (bid, offer) = (number([a, b, c, d]), number([e, f, g, h]));
             (book.quote(Market { bid, offer }), next)
+        }
+        [tag::TIMED_QUOTE, 0, length::TIMED_QUOTE, a, b, c, d, e, f, g, h, i, j, ref next @ ..] => {
+            let (bid, offer) = (number([c, d, e, f]), number([g, h, i, j]));
+            let time = u16::from_be_bytes([a, b]);
+            (book.timed_quote(time, Market { bid, offer }), next)
         }
         [tag::HALT, 0, length::HALT, ref next @ ..] => (book.halt(), next),
         [tag::RESUME, 0, length::RESUME, ref next @ ..] => (book.resume(), next),

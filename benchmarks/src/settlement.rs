@@ -44,10 +44,10 @@ pub fn amount(rate: i64, price: u32, size: i64) -> i64 {
     half_even(-rate * i64::from(price) * size, AMOUNT_DIVISOR)
 }
 
-/// The average price of contracts with this gross, none without contracts.
-pub fn average(gross: u64, contracts: u32) -> Option<u32> {
-    match contracts {
+/// The average price of a sum of prices, each taken as often as it weighs; none without weight.
+pub fn average(sum: u64, weight: u32) -> Option<u32> {
+    match weight {
         0 => None,
-        _ => Some(half_even(gross as i64, contracts.into()) as u32),
+        _ => Some(half_even(sum as i64, weight.into()) as u32),
     }
 }

@@ -3,6 +3,7 @@
 use benchmarks::{answers, run, ACCOUNTS};
 use dayformat::Writer;
 use differential::profiles;
+use differential::random::Random;
 use reference::play::{play, Answer};
 use reference::rules::Rules;
 use reference::{c_run, size_and_records};
@@ -64,6 +65,72 @@ fn days_of_both_lengths() {
             .close();
     }
     expect_same("both lengths", &[&[10], &file.bytes[..]].concat());
+}
+
+/// Markets in field and not: wide, narrow, at both ends of the prices, one-sided, none, crossed, and
+/// one with a side that isn't ticked.
+const MARKETS: [(u32, u32); 11] = [
+    (200_100, 200_300),
+    (200_110, 200_510),
+    (200_090, 200_100),
+    (5_000, 5_010),
+    (5_000, 50_000_000),
+    (49_999_990, 50_000_000),
+    (0, 200_300),
+    (200_100, 0),
+    (0, 0),
+    (200_300, 200_300),
+    (200_105, 200_300),
+];
+
+/// Mostly quotes with times that rise, some times that run back or are above 59,999, and quotes
+/// without one, halts and resumes between them.
+fn add_minute(file: &mut Writer, random: &mut Random) {
+    let mut time = 0;
+    for _ in 0..random.below(12) {
+        let (bid, offer) = random.pick(&MARKETS);
+        match random.below(12) {
+            0 => file.halt(),
+            1 | 2 => file.resume(),
+            3 => file.quote(bid, offer),
+            4 => file.timed_quote(random.pick(&[0, 59_999, 60_000, 65_535]), bid, offer),
+            5 => file.timed_quote(random.below(60_000) as u16, bid, offer),
+            _ => {
+                time += random.below(10_000) as u16 / 2;
+                file.timed_quote(time, bid, offer)
+            }
+        };
+    }
+}
+
+/// The last two minutes of such a day and what comes after them are random; the third minute end is
+/// late. Where no rule gives a price, the second fix does. A quote at 0 follows on the close before.
+fn add_day_without_late_trades(file: &mut Writer, random: &mut Random) {
+    let length = random.pick(&[1_140, 1_320]);
+    file.length_of_day(length).resume();
+    file.timed_quote(0, 200_100, 200_300);
+    file.trade((3, 7), 0, 12, 200_200);
+    file.minute_ends(usize::from(length) - 2, 200_000);
+    for _ in 0..3 {
+        add_minute(file, random);
+        file.minute_ends(1, random.pick(&[0, 200_100, 200_300]));
+    }
+    file.fix(0).fix(200_250);
+    add_minute(file, random);
+    file.close();
+}
+
+#[test]
+fn days_settled_by_midpoints() {
+    let mut random = Random::new(4);
+    for number in 0..40 {
+        let mut file = Writer::new();
+        for _ in 0..4 {
+            add_day_without_late_trades(&mut file, &mut random);
+        }
+        let input = [&[10], &file.bytes[..]].concat();
+        expect_same(&format!("midpoints {number}"), &input);
+    }
 }
 
 #[test]

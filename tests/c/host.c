@@ -120,6 +120,56 @@ static void a_short_day(void)
     expect_day(&day, 1146);
 }
 
+/* A day that its midpoints settle. Refused are a time above 59,999, before the crossed sides are
+   looked at; crossed sides, which give no time; and, before the crossed sides, a time that runs
+   back: in the first minute, in the last one, and on both sides of the fix. The close lets the
+   times begin again.
+
+   In the last minute stand
+       200100/200300 from 0 to 20,000: 20,000 ms at 200,200,
+       an offer alone from 20,000 to 30,000,
+       200200/200500 from 30,000 on, replaced at once by the quote without a time,
+       200190/200310 from 30,000 to 46,250: 16,250 ms at 200,250,
+       200110/200510 from 46,250 to 60,000: 13,750 ms at 200,310.
+   That is 50,000 ms. Beyond 200,200 the midpoints come to 16,250 x 50 + 13,750 x 110 = 2,325,000,
+   and 2,325,000 / 50,000 is 46.5, a tie: the price is 200,246. Every minute has a last price of
+   200,200 inside its market and an index of 200,000, so that the rate is 1,000,000; the amount is
+   -1,000,000 x 200,246 x 10 / 10^11 = -20.0246, rounded to -20. Account 3 makes
+   12 x (200,246 - 200,200) x 10 = 5,520 and pays 12 x 20 x 100 = 24,000. */
+static struct file midpoint_day(void)
+{
+    struct file day = {NULL, 0, 0};
+    add_timed_quote(&day, 60000, 200300, 200100); /* record 1: refused 5 */
+    add_timed_quote(&day, 30000, 200300, 200100); /* record 2: refused 6 */
+    add_timed_quote(&day, 20000, 200100, 200300);
+    add_timed_quote(&day, 19999, 200300, 200100); /* record 4: refused 11 */
+    add_trade(&day, 3, 7, 12, 200200);
+    add_minute_ends(&day, 1319, 200000);
+    add_timed_quote(&day, 20000, 0, 200300);
+    add_timed_quote(&day, 30000, 200200, 200500);
+    add_quote(&day, 200190, 200310);
+    add_timed_quote(&day, 29999, 200110, 200510); /* record 1328: refused 11 */
+    add_timed_quote(&day, 46250, 200110, 200510);
+    add_minute_ends(&day, 1, 200000);
+    add_timed_quote(&day, 10000, 200400, 200600);
+    add_timed_quote(&day, 9999, 200400, 200600); /* record 1332: refused 11 */
+    add_fix(&day, 0);
+    add_timed_quote(&day, 9999, 200400, 200600); /* record 1334: refused 11 */
+    add_close(&day);
+    add_timed_quote(&day, 0, 200400, 200600);
+    return day;
+}
+
+static void midpoints_settle_a_day(void)
+{
+    struct file day = midpoint_day();
+    EXPECT(run(10, &day), 1336 - 6);
+    expect_account(3, 12, -18480);
+    expect_account(7, -12, 18480);
+    EXPECT(accounts_shown(), 2);
+    free(day.bytes);
+}
+
 static void the_open_day_is_reported(void)
 {
     struct file day = example_day();
@@ -188,7 +238,7 @@ static void a_record_cut_off_ends_the_run(void)
 /* Records that aren't accepted, each with a trade after it. */
 static void only_accepted_records_count(void)
 {
-    static const uint8_t known_tags[] = {1, 2, 3, 4, 5, 6, 7, 8};
+    static const uint8_t known_tags[] = {1, 2, 3, 4, 5, 6, 7, 8, 9};
     static const uint8_t body[] = {1, 0, 11, 3, 7};
     struct file day = {NULL, 0, 0};
     int trades = 0;
@@ -198,7 +248,7 @@ static void only_accepted_records_count(void)
         trades++;
     }
     for (int tag = 0; tag <= UINT8_MAX; tag++)
-        if (tag == 0 || tag > 8) {
+        if (tag == 0 || tag > 9) {
             add_record(&day, (uint8_t)tag, body, tag % 2 == 0 ? 0 : sizeof body);
             add_trade(&day, 3, 7, 12, 200200);
             trades++;
@@ -322,6 +372,24 @@ static void the_printout_of_document_01(void)
     free(input.bytes);
 }
 
+static void the_printout_of_a_day_that_midpoints_settle(void)
+{
+    struct file day = midpoint_day();
+    struct file input = input_of(10, &day);
+    expect_printout(&input, "refused 5 record 1\n"
+                            "refused 6 record 2\n"
+                            "refused 11 record 4\n"
+                            "refused 11 record 1328\n"
+                            "refused 11 record 1332\n"
+                            "day 1 price 200246 rate 1000000 amount -20 valid 1320\n"
+                            "refused 11 record 1334\n"
+                            "acct 3 net 12 cash -18480\n"
+                            "acct 7 net -12 cash 18480\n"
+                            "end\n");
+    free(input.bytes);
+    free(day.bytes);
+}
+
 /* Asks for a part of a printout that is known whole. */
 static void expect_part(const struct file *input, size_t from, size_t out_len,
                         const uint8_t *whole, size_t length)
@@ -411,7 +479,7 @@ static void only_the_first_bytes_count_for_a_printout(void)
     static const uint8_t body[3] = {0};
     for (size_t shift = 0; shift < 3; shift++) {
         struct file records = {NULL, 0, 0};
-        add_record(&records, 9, body, shift);
+        add_record(&records, 200, body, shift);
         while (records.length < FUNDING_PRINTOUT_INPUT + 1000)
             add_record(&records, 4, NULL, 0);
         struct file input = input_of(1, &records);
@@ -435,6 +503,7 @@ int main(void)
 {
     the_example_of_document_01();
     a_short_day();
+    midpoints_settle_a_day();
     the_open_day_is_reported();
     other_sizes_are_refused();
     lists_of_other_lengths_are_refused();
@@ -443,11 +512,12 @@ int main(void)
     only_accepted_records_count();
     a_book_of_all_its_days();
     the_printout_of_document_01();
+    the_printout_of_a_day_that_midpoints_settle();
     any_part_is_of_the_whole();
     parts_put_together_are_the_whole();
     nothing_is_written_from_the_end_on();
     a_size_alone_has_a_printout();
     only_the_first_bytes_count_for_a_printout();
-    printf("C interface: 15 tests passed\n");
+    printf("C interface: 17 tests passed\n");
     return 0;
 }

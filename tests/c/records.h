@@ -56,6 +56,15 @@ static void add_quote(struct file *file, uint32_t bid, uint32_t offer)
     add_record(file, 2, body, sizeof body);
 }
 
+/* The time is in milliseconds into the minute. */
+static void add_timed_quote(struct file *file, uint16_t time, uint32_t bid, uint32_t offer)
+{
+    uint8_t body[10] = {(uint8_t)(time >> 8), (uint8_t)time};
+    put_number(body + 2, bid);
+    put_number(body + 6, offer);
+    add_record(file, 9, body, sizeof body);
+}
+
 static void add_minute_ends(struct file *file, int count, uint32_t index)
 {
     uint8_t body[4];

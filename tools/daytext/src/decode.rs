@@ -71,6 +71,10 @@ impl fmt::Display for Record {
             Record::Quote { bid, offer } => {
                 write!(formatter, "quote {} {}", OrNone(*bid), OrNone(*offer))
             }
+            Record::TimedQuote { time, bid, offer } => {
+                let (bid, offer) = (OrNone(*bid), OrNone(*offer));
+                write!(formatter, "quote {bid} {offer} after {time}")
+            }
             Record::MinuteEnd { index } => write!(formatter, "minute {}", OrNone(*index)),
             Record::Halt => write!(formatter, "halt"),
             Record::Resume => write!(formatter, "resume"),

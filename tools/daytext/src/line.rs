@@ -54,10 +54,7 @@ impl Words<'_> {
         match first {
             "length" => self.length_of_day(),
             "trade" => self.trade(),
-            "quote" => Ok(Record::Quote {
-                bid: self.number_or_none("bid")?,
-                offer: self.number_or_none("offer")?,
-            }),
+            "quote" => self.quote(),
             "minute" => Ok(Record::MinuteEnd {
                 index: self.number_or_none("index")?,
             }),
@@ -74,10 +71,18 @@ impl Words<'_> {
     }
 
     fn length_of_day(&mut self) -> Result<Record, String> {
-        let minutes = self.number("length of day", 0..=u32::from(u16::MAX), "")?;
-        Ok(Record::LengthOfDay {
-            minutes: u16::try_from(minutes).expect("the number is at most 65,535"),
-        })
+        let minutes = self.two_bytes("length of day")?;
+        Ok(Record::LengthOfDay { minutes })
+    }
+
+    fn quote(&mut self) -> Result<Record, String> {
+        let bid = self.number_or_none("bid")?;
+        let offer = self.number_or_none("offer")?;
+        if self.0.next_if_eq(&"after").is_none() {
+            return Ok(Record::Quote { bid, offer });
+        }
+        let time = self.two_bytes("time in milliseconds")?;
+        Ok(Record::TimedQuote { time, bid, offer })
     }
 
     fn trade(&mut self) -> Result<Record, String> {
@@ -155,6 +160,11 @@ impl Words<'_> {
         Ok(u8::try_from(number).expect("the number is at most 255"))
     }
 
+    fn two_bytes(&mut self, name: &str) -> Result<u16, String> {
+        let number = self.number(name, 0..=u32::from(u16::MAX), "")?;
+        Ok(u16::try_from(number).expect("the number is at most 65,535"))
+    }
+
     /// A number, where `-` stands for none and counts as 0.
     fn number_or_none(&mut self, name: &str) -> Result<u32, String> {
         if self.0.next_if_eq(&"-").is_some() {
@@ -194,6 +204,9 @@ impl Words<'_> {
 
     fn end(&mut self, parsed: &Line) -> Result<(), String> {
         let expected = match parsed {
+            Line::Record(Record::Quote { .. }, 1) => {
+                "the end of the line, after and milliseconds, or times and a number"
+            }
             Line::Record(_, 1) => "the end of the line, or times and a number",
             _ => "the end of the line",
         };

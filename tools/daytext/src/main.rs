@@ -22,6 +22,7 @@ The text has one call a line; # begins a comment.
   size 10                          first; 1 or 10, or missing for an empty file
   length 1140                      or 1320 minutes, before a date's first call
   quote 200100 200300              bid, offer; - for none
+  quote 200100 200300 after 30000  with its time, milliseconds into the minute
   trade 3 7 simple 12 at 200200    buyer, seller, kind, quantity, price;
                                    kinds: simple, spread, block, or a number
   minute 200,000 times 1319        index, - for none; times repeats a line
@@ -29,7 +30,7 @@ The text has one call a line; # begins a comment.
   resume
   fix                              fix 200150 sets the price
   close
-  record 9 00 ff                   any tag and body, in hexadecimal
+  record 200 00 ff                 any tag and body, in hexadecimal
   bytes 02 00                      last; a record that is cut off
 
   daytext encode day.txt | funding-bench

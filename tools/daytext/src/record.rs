@@ -1,6 +1,8 @@
 //! The records of a day file, each with its fields.
 
-use dayformat::tag::{CLOSE, FIX, HALT, LENGTH_OF_DAY, MINUTE_END, QUOTE, RESUME, TRADE};
+use dayformat::tag::{
+    CLOSE, FIX, HALT, LENGTH_OF_DAY, MINUTE_END, QUOTE, RESUME, TIMED_QUOTE, TRADE,
+};
 use dayformat::{header, kind, Writer};
 
 /// The kinds of trades that have a word.
@@ -34,6 +36,12 @@ pub enum Record {
     Close,
     LengthOfDay {
         minutes: u16,
+    },
+    TimedQuote {
+        /// Milliseconds into the minute.
+        time: u16,
+        bid: u32,
+        offer: u32,
     },
     /// An unknown tag, or a known one with a wrong length.
     Other {
@@ -69,6 +77,11 @@ impl Record {
             (LENGTH_OF_DAY, &[a, b]) => Record::LengthOfDay {
                 minutes: u16::from_be_bytes([a, b]),
             },
+            (TIMED_QUOTE, &[a, b, c, d, e, f, g, h, i, j]) => Record::TimedQuote {
+                time: u16::from_be_bytes([a, b]),
+                bid: u32::from_be_bytes([c, d, e, f]),
+                offer: u32::from_be_bytes([g, h, i, j]),
+            },
             _ => Record::Other {
                 tag,
                 body: body.to_vec(),
@@ -100,6 +113,7 @@ impl Record {
             Record::Fix { price } => file.fix(*price),
             Record::Close => file.close(),
             Record::LengthOfDay { minutes } => file.length_of_day(*minutes),
+            Record::TimedQuote { time, bid, offer } => file.timed_quote(*time, *bid, *offer),
             Record::Other { tag, body } => file.record(*tag, body),
         };
         file.bytes

@@ -24,7 +24,7 @@ fn first_words() {
 /// What a value of each field is expected to be.
 const BYTE: &str = "expected a number from 0 to 255";
 const KIND: &str = "expected a number from 0 to 255, or simple, spread or block";
-const MINUTES: &str = "expected a number from 0 to 65535";
+const TWO_BYTES: &str = "expected a number from 0 to 65535";
 const NUMBER: &str = "expected a number from 0 to 4294967295";
 const NUMBER_OR_NONE: &str = "expected a number from 0 to 4294967295, or - for none";
 const COUNT: &str = "expected a number from 1 to 1000000";
@@ -33,9 +33,10 @@ const HEXADECIMAL: &str = "expected two hexadecimal digits for each";
 #[test]
 fn missing_values() {
     for (line, name, expected) in [
-        ("length", "length of day", MINUTES),
+        ("length", "length of day", TWO_BYTES),
         ("quote", "bid", NUMBER_OR_NONE),
         ("quote 200100", "offer", NUMBER_OR_NONE),
+        ("quote 1 2 after", "time in milliseconds", TWO_BYTES),
         ("minute", "index", NUMBER_OR_NONE),
         ("trade", "buyer", BYTE),
         ("trade 3", "seller", BYTE),
@@ -57,9 +58,25 @@ fn missing_values() {
 #[test]
 fn wrong_numbers() {
     for (line, found, expected) in [
-        ("length 65536", "length of day is \"65536\"", MINUTES),
-        ("length -", "length of day is \"-\"", MINUTES),
+        ("length 65536", "length of day is \"65536\"", TWO_BYTES),
+        ("length -", "length of day is \"-\"", TWO_BYTES),
         ("quote 200100 x", "offer is \"x\"", NUMBER_OR_NONE),
+        ("quote 1 after 5", "offer is \"after\"", NUMBER_OR_NONE),
+        (
+            "quote 1 2 after 65,536",
+            "time in milliseconds is \"65,536\"",
+            TWO_BYTES,
+        ),
+        (
+            "quote 1 2 after -",
+            "time in milliseconds is \"-\"",
+            TWO_BYTES,
+        ),
+        (
+            "quote 1 2 after times 2",
+            "time in milliseconds is \"times\"",
+            TWO_BYTES,
+        ),
         ("quote 2001,00 0", "bid is \"2001,00\"", NUMBER_OR_NONE),
         (
             "minute 4294967296",
@@ -95,7 +112,7 @@ fn wrong_words() {
         "trade 3 7 simple 12 200200",
         "\"200200\" before the price; expected the word at",
     );
-    check("record 9 0", &format!("\"0\" is no bytes; {HEXADECIMAL}"));
+    check("record 200 0", &format!("\"0\" is no bytes; {HEXADECIMAL}"));
     check("bytes 0g", &format!("\"0g\" is no bytes; {HEXADECIMAL}"));
 }
 
@@ -104,6 +121,19 @@ fn words_too_much() {
     check(
         "length 1140 1320",
         "\"1320\" is too much; expected the end of the line, or times and a number",
+    );
+    check(
+        "quote 1 2 at 30000",
+        "\"at\" is too much; expected the end of the line, after and milliseconds, \
+         or times and a number",
+    );
+    check(
+        "quote 1 2 after 30000 ms",
+        "\"ms\" is too much; expected the end of the line, or times and a number",
+    );
+    check(
+        "quote 1 2 times 2 after 30000",
+        "\"after\" is too much; expected the end of the line",
     );
     check(
         "halt now",
@@ -122,9 +152,9 @@ fn words_too_much() {
 #[test]
 fn bodies_too_long() {
     let longest = "00".repeat(65_535);
-    assert!(daytext::encode(&format!("size 1\nrecord 9 {longest}")).is_ok());
+    assert!(daytext::encode(&format!("size 1\nrecord 200 {longest}")).is_ok());
     check(
-        &format!("record 9 {longest} 00"),
+        &format!("record 200 {longest} 00"),
         "the body has 65536 bytes; expected at most 65535",
     );
 }

@@ -26,6 +26,30 @@ fn calls() {
 }
 
 #[test]
+fn timed_quotes() {
+    let sides = [0, 3, 13, 164, 0, 3, 14, 108];
+    for (milliseconds, high, low) in [
+        ("0", 0, 0),
+        ("12500", 48, 212),
+        ("12,500", 48, 212),
+        ("59999", 234, 95),
+        ("60_000", 234, 96),
+        ("65535", 255, 255),
+    ] {
+        let line = format!("quote 200,100 200300 after {milliseconds}");
+        check(&line, &[&[9, 0, 10, high, low], &sides[..]].concat());
+    }
+    check(
+        "quote - 5000 after 1",
+        &[9, 0, 10, 0, 1, 0, 0, 0, 0, 0, 0, 19, 136],
+    );
+    check(
+        "quote 5000 0 after 2 times 2",
+        &[9, 0, 10, 0, 2, 0, 0, 19, 136, 0, 0, 0, 0].repeat(2),
+    );
+}
+
+#[test]
 fn kinds() {
     for (word, kind) in [
         ("simple", 0),
@@ -42,6 +66,7 @@ fn kinds() {
 
 #[test]
 fn damaged_records() {
+    check("record 200", &[200, 0, 0]);
     check("record 9", &[9, 0, 0]);
     check("record 3 01 02FF", &[3, 0, 3, 1, 2, 255]);
     check("record 255 00 times 2", &[255, 0, 1, 0, 255, 0, 1, 0]);
@@ -88,6 +113,38 @@ length 65535                             # record 2
 record 8 04                              # record 3
 bytes 08 00 02 04                        # record 4
 ";
+    assert_eq!(daytext::decode(&bytes), expected);
+}
+
+#[test]
+fn timed_quotes_whole_and_damaged() {
+    let bytes = [
+        &[1][..],
+        &[9, 0, 10, 48, 212, 0, 3, 13, 164, 0, 3, 14, 108],
+        &[9, 0, 10, 255, 255, 0, 0, 0, 0, 0, 0, 0, 1],
+        &[9, 0, 8, 0, 3, 13, 164, 0, 3, 14, 108],
+        &[9, 0, 10, 48, 212],
+    ];
+    let expected = "\
+size 1
+quote 200100 200300 after 12500          # record 1
+quote - 1 after 65535                    # record 2
+record 9 00 03 0d a4 00 03 0e 6c         # record 3
+bytes 09 00 0a 30 d4                     # record 4
+";
+    assert_eq!(daytext::decode(&bytes.concat()), expected);
+}
+
+/// A body of ten bytes is the timed quote that it spells.
+#[test]
+fn a_record_line_with_a_whole_body_is_its_call() {
+    let text = "size 1\nrecord 9 30d4 00030da4 00030e6c\nrecord 2 0000 0000 0000 0000\n";
+    let expected = "\
+size 1
+quote 200100 200300 after 12500          # record 1
+quote - -                                # record 2
+";
+    let bytes = daytext::encode(text).unwrap();
     assert_eq!(daytext::decode(&bytes), expected);
 }
 

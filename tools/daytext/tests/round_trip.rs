@@ -25,7 +25,7 @@ impl Random {
 
     /// A record whose length often fits its tag, with few different bodies.
     fn record(&mut self) -> Vec<u8> {
-        let tag = self.below(10) as u8;
+        let tag = self.below(11) as u8;
         let length = match self.below(4) {
             0 => self.below(14),
             _ => body_length(tag).unwrap_or(0),
@@ -85,7 +85,7 @@ fn random_records() {
 
 #[test]
 fn longest_record_whole_and_cut_off() {
-    let mut bytes = vec![10, 9, 255, 255];
+    let mut bytes = vec![10, 200, 255, 255];
     bytes.extend([0xa5; 65_535]);
     check(&bytes);
     check(&bytes[..bytes.len() - 1]);
