@@ -145,10 +145,9 @@ impl Day {
             return 0;
         }
         if self.is_in_last_minute() {
-            self.timing.latest
-        } else {
-            MINUTE_LENGTH
+            return self.timing.latest;
         }
+        MINUTE_LENGTH
     }
 
     fn timing_holds(self) -> bool

@@ -93,11 +93,11 @@ module _ (d : Day) (h : HeldDay d) (time : ℕ) (forward : d.timing.latest ≤ t
       cond_both (last d) _ _ (λ (m : Midpoints). PriceSum m.total m.sum)
       (λ l. cond_both (two_sided d.markets.standing) _ _ (λ (m : Midpoints). PriceSum m.total m.sum)
       (λ two.
-          let p = midpoint_price two in
-          let same : stood ≤ stood = omega arith in
-          let low : least_price * stood ≤ midpoint d.markets.standing * stood = mul-le-mul p.0 same in
-          let high : midpoint d.markets.standing * stood ≤ largest_price * stood = mul-le-mul p.1 same in
-          record { low = omega (arith, low, h.sum.low); high = omega (arith, high, h.sum.high) })
+      let p = midpoint_price two in
+      let same : stood ≤ stood = omega arith in
+      let low : least_price * stood ≤ midpoint d.markets.standing * stood = mul-le-mul p.0 same in
+      let high : midpoint d.markets.standing * stood ≤ largest_price * stood = mul-le-mul p.1 same in
+      record { low = omega (arith, low, h.sum.low); high = omega (arith, high, h.sum.high) })
       (λ one. h.sum))
       (λ l. h.sum)
 
@@ -106,7 +106,7 @@ module _ (d : Day) (h : HeldDay d) (time : ℕ) (forward : d.timing.latest ≤ t
   stood_total n within other =
       cond_both (last d) _ _ (λ (m : Midpoints). m.total ≤ n)
       (λ l. let w : d.minutes.ended + 1 ≡ day_length d = omega tests in
-          cond_both (two_sided d.markets.standing) _ _ (λ (m : Midpoints). m.total ≤ n)
-          (λ two. omega (arith, within w, total_within d h w))
-          (λ one. omega (arith, within w, total_within d h w)))
+      cond_both (two_sided d.markets.standing) _ _ (λ (m : Midpoints). m.total ≤ n)
+      (λ two. omega (arith, within w, total_within d h w))
+      (λ one. omega (arith, within w, total_within d h w)))
       (λ l. other (eqb-false _ _ l))

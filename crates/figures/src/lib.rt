@@ -89,7 +89,13 @@ impl Figures {
         let settling = self.day.trades.settling;
         let minutes = self.day.minutes;
         let midpoints = self.day.timing.midpoints;
-        let price = settlement::settlement_price(set, settling, midpoints, minutes.index, self.previous);
+        let price = settlement::settlement_price(
+            set,
+            settling,
+            midpoints,
+            minutes.index,
+            self.previous,
+        );
         let rate = settlement::rate(minutes.valid, minutes.weighted);
         let clamped = settlement::clamp(rate, self.terms());
         Fixing {

@@ -129,8 +129,8 @@ module _ (s : ℕ) (h : History) where
       let f = figures_after (figures_from s h) (call.MinuteEnd u) in
       let before : minutes h < length_of h = omega (tests, none (leb (length_of h) (minutes h)) (is_fixed (day_from s h) ∷ []) p.sentences.day 0) in
       λ i. with_day f f.halted
-        (with_timing (with_minutes f.day (record { ended = add-one (minutes h) i; valid = valid_after u i; weighted = weighted-minute_ended u i; index = f.day.minutes.index }))
-        (record { latest = 0; midpoints = after_minute h u before i }))
+      (with_timing (with_minutes f.day (record { ended = add-one (minutes h) i; valid = valid_after u i; weighted = weighted-minute_ended u i; index = f.day.minutes.index }))
+      (record { latest = 0; midpoints = after_minute h u before i }))
   figures_after-figures_from n (call.Fix set) p =
       let f = figures_after (figures_from s h) (call.Fix set) in
       let over : length_of h ≤ minutes h = omega (tests, none (ltb (minutes h) (length_of h)) (is_fixed (day_from s h) ∷ []) p.sentences.day 0) in

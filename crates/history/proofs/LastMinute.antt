@@ -77,7 +77,7 @@ unfolding stood
 up_to h until =
     let earlier = stood (latest h) (head h).rest in
     let from-here : (t : ℕ) → weighed (stood t (minute_markets h)) ≡ with_market (weighed earlier) (market h) (t - latest h) =
-        λ t. ap (λ (l : List Standing). weighed (stood t l)) (head h).is ∙ weighed_more (market h) (t - latest h) earlier in
+    λ t. ap (λ (l : List Standing). weighed (stood t l)) (head h).is ∙ weighed_more (market h) (t - latest h) earlier in
     let before : running h ≡ weighed earlier = from-here (latest h) ∙ no_time (weighed earlier) (market h) (latest h) in
     from-here until ∙ ap (λ x. with_market x (market h) (until - latest h)) (sym before)
 
