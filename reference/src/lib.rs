@@ -8,6 +8,7 @@ pub mod call;
 pub mod file;
 pub mod fraction;
 pub mod history;
+pub mod midpoints;
 pub mod minutes;
 pub mod play;
 pub mod printout;

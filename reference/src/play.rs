@@ -67,7 +67,7 @@ impl Played {
     /// The settlements of the fixed days, in order.
     pub fn settlements(&self) -> Vec<Settlement> {
         (0..self.history.days.len())
-            .filter_map(|day| settlement(&self.history, day, self.rules.calls))
+            .filter_map(|day| settlement(&self.history, day, self.rules))
             .collect()
     }
 

@@ -62,7 +62,7 @@ fn insert_many(random: &mut Random, file: &[u8]) -> Vec<u8> {
 }
 
 fn unknown_record(random: &mut Random) -> Vec<u8> {
-    let tag = random.pick(&[0, 9, 10, 11, 12, 77, 255]);
+    let tag = random.pick(&[0, 10, 11, 12, 13, 77, 255]);
     record(random, tag)
 }
 
@@ -105,7 +105,7 @@ fn change_length(random: &mut Random, file: &[u8]) -> Vec<u8> {
     if !records.is_empty() {
         let at = random.below(records.len() as u32) as usize;
         if let Some(low) = records[at].get_mut(2) {
-            *low = random.pick(&[0, 2, 3, 4, 5, 7, 8, 11, 12, 255]);
+            *low = random.pick(&[0, 2, 3, 4, 5, 7, 8, 9, 10, 11, 12, 255]);
         }
     }
     records.concat()
