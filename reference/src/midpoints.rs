@@ -30,23 +30,29 @@ pub fn midpoint_price(days: &[Day], rules: Rules) -> Option<i128> {
     enough.then(|| rules.calls.average_midpoint(sum.divided_by(total)))
 }
 
-/// The markets that stood from the start of these places among a day's calls up to their end, in order.
+pub fn last_day(days: &[Day]) -> &Day {
+    days.last().expect("rules are asked about a day")
+}
+
+/// The markets that stood from the start of these places among the last day's calls up to their end,
+/// in order.
 pub fn standings<R: MidpointRules + ?Sized>(
-    day: &Day,
+    days: &[Day],
     places: Range<usize>,
     rules: &R,
 ) -> Vec<Standing> {
+    let day = last_day(days);
     let at_start = rules.market_at_start(&day.calls[..places.start]);
     let left_by = |place: usize| Some((place, rules.market_after(day.calls[place])?));
     let changes: Vec<(usize, Market)> = places.clone().filter_map(left_by).collect();
-    let start = once((rules.minute_start(day, places.start), at_start));
+    let start = once((rules.minute_start(days, places.start), at_start));
     let later = changes
         .iter()
-        .map(|(place, market)| (rules.from(day, *place), *market));
+        .map(|(place, market)| (rules.from(days, *place), *market));
     let ends = changes.iter().map(|(place, _)| *place);
     let standing = |((from, market), end)| Standing {
         market,
-        milliseconds: rules.milliseconds(from, rules.until(day, end)),
+        milliseconds: rules.milliseconds(from, rules.until(days, end)),
     };
     start
         .chain(later)

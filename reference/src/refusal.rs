@@ -161,8 +161,8 @@ impl Asked<'_> {
     }
 
     fn time_runs_back(&self, time: u16) -> bool {
-        let day = self.history.open_day();
-        let latest = self.rules.midpoints.latest_time(day, day.calls.len());
+        let (days, place) = (&self.history.days, self.history.open_day().calls.len());
+        let latest = self.rules.midpoints.latest_time(days, place);
         self.rules.refusals.time_runs_back(time, latest)
     }
 

@@ -3,41 +3,41 @@
 use crate::call::{Call, Market};
 use crate::fraction::Fraction;
 use crate::history::Day;
-use crate::midpoints::{standings, Standing};
+use crate::midpoints::{last_day, standings, Standing};
 use crate::terms::END_OF_MINUTE;
 
-/// A place is one among the calls of a day.
+/// A rule that takes a list of days is asked about the last of them; a place is one among its calls.
 pub trait MidpointRules: Sync {
     /// "The latest time given in that minute, 0 if none"; "each minute end and close sets that time to
     /// 0": of the minute that a place lies in, before that place.
-    fn latest_time(&self, day: &Day, place: usize) -> u16 {
-        let minute = day.minute_before(place).iter();
+    fn latest_time(&self, days: &[Day], place: usize) -> u16 {
+        let minute = last_day(days).minute_before(place).iter();
         let times = minute.filter_map(|call| call.time());
         times.max().unwrap_or(0)
     }
 
     /// When a call came: "A tag 2 quote or a halt counts at the latest time given in that minute".
-    fn came_at(&self, day: &Day, place: usize) -> u16 {
-        let own = day.calls[place].time();
-        own.unwrap_or_else(|| self.latest_time(day, place))
+    fn came_at(&self, days: &[Day], place: usize) -> u16 {
+        let own = last_day(days).calls[place].time();
+        own.unwrap_or_else(|| self.latest_time(days, place))
     }
 
     /// "From minute start": for the market that stood at the start of a minute, by the minute's first
     /// place.
-    fn minute_start(&self, _day: &Day, _place: usize) -> u16 {
+    fn minute_start(&self, _days: &[Day], _place: usize) -> u16 {
         0
     }
 
     /// "Or its own time": for the market that stands from a call on.
-    fn from(&self, day: &Day, place: usize) -> u16 {
-        self.came_at(day, place)
+    fn from(&self, days: &[Day], place: usize) -> u16 {
+        self.came_at(days, place)
     }
 
     /// "Until replaced, removed or 60,000": for the market that stood until a call.
-    fn until(&self, day: &Day, place: usize) -> u16 {
-        match day.calls[place] {
+    fn until(&self, days: &[Day], place: usize) -> u16 {
+        match last_day(days).calls[place] {
             Call::MinuteEnd(_) => END_OF_MINUTE,
-            _ => self.came_at(day, place),
+            _ => self.came_at(days, place),
         }
     }
 
@@ -59,11 +59,10 @@ pub trait MidpointRules: Sync {
 
     /// "Over the last minute", which is the day's own; "nothing after the last minute end adds time".
     fn last_minute(&self, days: &[Day], length: usize) -> Vec<Standing> {
-        match days.last() {
-            Some(day) if day.ended_minutes() >= length => {
-                standings(day, day.places_of_minute(length), self)
-            }
-            _ => Vec::new(),
+        let day = last_day(days);
+        match day.ended_minutes() >= length {
+            true => standings(days, day.places_of_minute(length), self),
+            false => Vec::new(),
         }
     }
 
