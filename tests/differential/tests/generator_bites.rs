@@ -2,10 +2,10 @@
 
 use differential::profiles::{input, long_input};
 use differential::wrong::{WrongLedger, ALL};
-use reference::play::play;
+use reference::printout::{bench_text, library_text};
 use reference::rules::{CallRules, Rules};
 use reference::settlement::{settlement_price, PriceRule};
-use reference::{bench, bench_under, library_printout, library_printout_under, size_and_records};
+use reference::{bench, bench_under, library_printout, library_printout_under, run};
 
 const FILES: u64 = 1_000;
 /// A ledger that every second file has told apart so often is played no further.
@@ -19,8 +19,13 @@ struct Bites {
 }
 
 fn differs(wrong: &WrongLedger, input: &[u8], bench: &str, library: &str) -> bool {
-    bench_under(wrong.rules, input) != bench
-        || library_printout_under(wrong.rules, input) != library
+    let played = run(wrong.rules, input);
+    let played = played.as_ref();
+    let bench_differs = match input.len() <= wrong.rules.files.bench_limit() {
+        true => bench_text(played) != bench,
+        false => bench_under(wrong.rules, input) != bench,
+    };
+    bench_differs || library_text(played) != library
 }
 
 /// The bites of every second seed, for each wrong ledger.
@@ -94,9 +99,8 @@ impl CallRules for Only {
 /// For a set price, trades, midpoints and the index: the fixed days of a file that settle by it.
 fn days_by_rule(input: &[u8]) -> [usize; 4] {
     static ALONE: [Only; 2] = [Only(&[PriceRule::Trades]), Only(&[PriceRule::Midpoints])];
-    let (size, file) = size_and_records(input);
     let mut days = [0; 4];
-    let Some(played) = play(size, file, Rules::RIGHT) else {
+    let Some(played) = run(Rules::RIGHT, input) else {
         return days;
     };
     for (number, day) in played.history.days.iter().enumerate() {
