@@ -64,7 +64,7 @@ const fn in_files(name: &'static str, files: &'static dyn FileRules) -> WrongLed
 }
 
 /// A static, so that their rules are compiled here alone.
-pub static ALL: [WrongLedger; 149] = [
+pub static ALL: [WrongLedger; 150] = [
     // Rounding.
     in_calls("tie-up", &TieUp),
     in_calls("tie-away-from-zero", &TieAwayFromZero),
@@ -128,6 +128,7 @@ pub static ALL: [WrongLedger; 149] = [
     in_midpoints("half-minute-needed", &HalfMinuteNeeded),
     in_midpoints("market-at-start-not-weighed", &MarketAtStartNotWeighed),
     in_midpoints("start-from-minute-before", &StartFromMinuteBefore),
+    in_midpoints("untimed-from-minute-before", &UntimedFromMinuteBefore),
     in_midpoints("untimed-quote-from-start", &UntimedQuoteFromStart),
     in_midpoints("time-lost-at-one-sided-quote", &TimeLostAtOneSidedQuote),
     in_midpoints("end-of-minute-not-added", &EndOfMinuteNotAdded),

@@ -39,8 +39,18 @@ fn changes(generator: &mut Generator, most: u32) {
     }
 }
 
+/// At both ends of the prices: the lowest market, the highest and the widest.
+const OUTERMOST: [(u32, u32); 3] = [
+    (5_000, 5_010),
+    (49_999_990, 50_000_000),
+    (5_000, 50_000_000),
+];
+
 /// A market of any width.
 fn market(generator: &mut Generator) -> (u32, u32) {
+    if generator.random.chance(5) {
+        return generator.random.pick(&OUTERMOST);
+    }
     let bid = generator.near_ticked_price().min(49_000_000);
     let ticks = generator.random.pick(&[1, 2, 3, 10, 100, bid / 500]);
     (bid, bid + 10 * ticks)

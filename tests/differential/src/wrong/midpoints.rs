@@ -130,6 +130,20 @@ impl MidpointRules for StartFromMinuteBefore {
     }
 }
 
+/// A quote of tag 2 or a halt counts at the latest time of an earlier minute, its own having none.
+pub struct UntimedFromMinuteBefore;
+
+impl MidpointRules for UntimedFromMinuteBefore {
+    fn came_at(&self, days: &[Day], place: usize) -> u16 {
+        let calls = last_day(days).calls[..=place].iter();
+        calls.rev().find_map(|call| call.time()).unwrap_or(0)
+    }
+
+    fn milliseconds(&self, from: u16, until: u16) -> i128 {
+        RightLedger.milliseconds(from, until).max(0)
+    }
+}
+
 /// A quote of tag 2 counts from the start of the minute, though the market before it had its time.
 pub struct UntimedQuoteFromStart;
 
