@@ -52,10 +52,19 @@ impl Market {
     }
 }
 
+/// 02-4: a quote of tag 9.
+#[derive(Clone, Copy, Debug, PartialEq, Eq)]
+pub struct TimedQuote {
+    /// Milliseconds into the minute.
+    pub time: u16,
+    pub market: Market,
+}
+
 #[derive(Clone, Copy, Debug, PartialEq, Eq)]
 pub enum Call {
     Trade(Trade),
     Quote(Market),
+    TimedQuote(TimedQuote),
     /// With the index, 0 for no sample.
     MinuteEnd(u32),
     Halt,
@@ -65,4 +74,23 @@ pub enum Call {
     Close,
     /// With the minutes.
     LengthOfDay(u16),
+}
+
+impl Call {
+    /// The market of a quote, with a time or without.
+    pub fn quoted(self) -> Option<Market> {
+        match self {
+            Call::Quote(market) => Some(market),
+            Call::TimedQuote(quote) => Some(quote.market),
+            _ => None,
+        }
+    }
+
+    /// The time that a quote gives.
+    pub fn time(self) -> Option<u16> {
+        match self {
+            Call::TimedQuote(quote) => Some(quote.time),
+            _ => None,
+        }
+    }
 }

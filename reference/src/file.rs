@@ -1,6 +1,6 @@
 //! Reads a file's records.
 
-use crate::call::{Call, Market, Trade};
+use crate::call::{Call, Market, TimedQuote, Trade};
 use crate::rules::FileRules;
 use dayformat::{body_length, header, tag};
 
@@ -52,9 +52,10 @@ fn call(tag: u8, body: &[u8]) -> Call {
             quantity: number(&body[3..7]),
             price: number(&body[7..11]),
         }),
-        tag::QUOTE => Call::Quote(Market {
-            bid: number(&body[0..4]),
-            offer: number(&body[4..8]),
+        tag::QUOTE => Call::Quote(market(body)),
+        tag::TIMED_QUOTE => Call::TimedQuote(TimedQuote {
+            time: number(&body[0..2]) as u16,
+            market: market(&body[2..10]),
         }),
         tag::MINUTE_END => Call::MinuteEnd(number(body)),
         tag::HALT => Call::Halt,
@@ -62,6 +63,13 @@ fn call(tag: u8, body: &[u8]) -> Call {
         tag::FIX => Call::Fix(number(body)),
         tag::LENGTH_OF_DAY => Call::LengthOfDay(number(body) as u16),
         _ => Call::Close,
+    }
+}
+
+fn market(sides: &[u8]) -> Market {
+    Market {
+        bid: number(&sides[0..4]),
+        offer: number(&sides[4..8]),
     }
 }
 

@@ -17,7 +17,14 @@ pub struct Day {
     /// Place of the length of day among the calls.
     pub length_of_day: Option<usize>,
     /// The records that weren't accepted, in order.
-    pub not_accepted: Vec<Record>,
+    pub not_accepted: Vec<NotAccepted>,
+}
+
+#[derive(Clone, Copy, Debug, PartialEq, Eq)]
+pub struct NotAccepted {
+    pub record: Record,
+    /// The place among the calls of its day that comes after it.
+    pub place: usize,
 }
 
 impl Day {
@@ -75,6 +82,13 @@ impl Day {
 
     pub fn places_of_minute(&self, minute: usize) -> Range<usize> {
         self.place_after_minute(minute - 1)..self.minute_ends[minute - 1]
+    }
+
+    /// The calls after the last minute end before a place, up to it. After the day's last minute end
+    /// they are all one minute.
+    pub fn minute_before(&self, place: usize) -> &[Call] {
+        let ended = self.minute_ends.partition_point(|end| *end < place);
+        &self.calls[self.place_after_minute(ended)..place]
     }
 
     pub fn place_after_minute(&self, minute: usize) -> usize {
@@ -144,14 +158,18 @@ impl History {
                 is_halt: call == Call::Halt,
             }),
             Call::Close => self.days.push(Day::default()),
-            Call::Quote(_) | Call::MinuteEnd(_) | Call::Fix(_) | Call::LengthOfDay(_) => {}
+            Call::Quote(_) | Call::TimedQuote(_) | Call::MinuteEnd(_) => {}
+            Call::Fix(_) | Call::LengthOfDay(_) => {}
         }
     }
 
     /// Adds a record that wasn't accepted.
     pub fn add_not_accepted(&mut self, record: Record) {
         let day = self.closed_days();
-        self.days[day].not_accepted.push(record);
+        let place = self.days[day].calls.len();
+        self.days[day]
+            .not_accepted
+            .push(NotAccepted { record, place });
     }
 
     fn add_trade(&mut self, trade: Trade) {

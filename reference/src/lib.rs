@@ -8,6 +8,7 @@ pub mod call;
 pub mod file;
 pub mod fraction;
 pub mod history;
+pub mod midpoints;
 pub mod minutes;
 pub mod play;
 pub mod printout;
@@ -17,7 +18,8 @@ pub mod rules;
 pub mod settlement;
 pub mod terms;
 
-use play::play;
+use play::{play, Played};
+use printout::{bench_text, library_text};
 use rules::Rules;
 use terms::ACCOUNTS;
 
@@ -31,10 +33,13 @@ pub fn bench(input: &[u8]) -> String {
 
 pub fn bench_under(rules: Rules, input: &[u8]) -> String {
     let counted = input.len().min(rules.files.bench_limit());
-    let (size, records) = size_and_records(&input[..counted]);
-    let mut text = printout::run_lines(size, records, rules).join("\n");
-    text.push('\n');
-    text
+    bench_text(run(rules, &input[..counted]).as_ref())
+}
+
+/// Plays size byte and records, none when the size is refused.
+pub fn run(rules: Rules, input: &[u8]) -> Option<Played> {
+    let (size, file) = size_and_records(input);
+    play(size, file, rules)
 }
 
 /// The size byte, 0 when missing, and the records after it.
@@ -46,13 +51,8 @@ pub fn size_and_records(input: &[u8]) -> (u8, &[u8]) {
 
 /// The run offered to C: accepted records, and the lists unless they stay untouched.
 pub fn c_run(size: u8, file: &[u8]) -> (u64, Option<Lists>) {
-    c_run_under(Rules::RIGHT, size, file)
-}
-
-pub fn c_run_under(rules: Rules, size: u8, file: &[u8]) -> (u64, Option<Lists>) {
-    play(size, file, rules).map_or((0, None), |played| {
-        (played.accepted(), rules.files.lists(&played))
-    })
+    let played = play(size, file, Rules::RIGHT);
+    played.map_or((0, None), |played| played.c_run())
 }
 
 /// What a program that links the C library prints: size byte and file on standard input.
@@ -61,16 +61,5 @@ pub fn library_printout(input: &[u8]) -> String {
 }
 
 pub fn library_printout_under(rules: Rules, input: &[u8]) -> String {
-    let (size, file) = size_and_records(input);
-    let (accepted, lists) = c_run_under(rules, size, file);
-    let mut text = format!("accepted {accepted}\n");
-    match lists {
-        None => text.push_str("untouched\n"),
-        Some((positions, cash)) => {
-            for (position, cash) in positions.iter().zip(cash) {
-                text.push_str(&format!("{position} {cash}\n"));
-            }
-        }
-    }
-    text
+    library_text(run(rules, input).as_ref())
 }

@@ -64,10 +64,15 @@ impl Played {
         self.answers.iter().filter(is_accepted).count() as u64
     }
 
+    /// What the run for C gives: accepted records, and the lists unless they stay untouched.
+    pub fn c_run(&self) -> (u64, Option<Lists>) {
+        (self.accepted(), self.rules.files.lists(self))
+    }
+
     /// The settlements of the fixed days, in order.
     pub fn settlements(&self) -> Vec<Settlement> {
         (0..self.history.days.len())
-            .filter_map(|day| settlement(&self.history, day, self.rules.calls))
+            .filter_map(|day| settlement(&self.history, day, self.rules))
             .collect()
     }
 

@@ -1,20 +1,34 @@
-//! The lines that the bench program prints.
+//! What the programs print.
 
 use crate::accounts::{position, ClosedDays};
 use crate::call::{Account, Call};
-use crate::play::{play, Answer, Played};
-use crate::rules::Rules;
+use crate::play::{Answer, Played};
 use crate::settlement::Settlement;
 use crate::terms::ACCOUNTS;
 
-/// Every line of a run, `end` included.
-pub fn run_lines(size: u8, file: &[u8], rules: Rules) -> Vec<String> {
-    let mut printed = match play(size, file, rules) {
+/// What the bench program prints of a run, none when the size is refused.
+pub fn bench_text(played: Option<&Played>) -> String {
+    let mut printed = match played {
         None => vec!["refused 5 record 0".to_string()],
-        Some(played) => lines(&played),
+        Some(played) => lines(played),
     };
-    printed.push("end".to_string());
-    printed
+    printed.push("end\n".to_string());
+    printed.join("\n")
+}
+
+/// What a program that links the C library prints of it.
+pub fn library_text(played: Option<&Played>) -> String {
+    let (accepted, lists) = played.map_or((0, None), Played::c_run);
+    let mut text = format!("accepted {accepted}\n");
+    match lists {
+        None => text.push_str("untouched\n"),
+        Some((positions, cash)) => {
+            for (position, cash) in positions.iter().zip(cash) {
+                text.push_str(&format!("{position} {cash}\n"));
+            }
+        }
+    }
+    text
 }
 
 fn lines(played: &Played) -> Vec<String> {

@@ -1,7 +1,7 @@
 //! The refusals that a call can meet.
 
 use crate::accounts::{position, volume};
-use crate::call::{Account, Call, Trade};
+use crate::call::{Account, Call, Market, Trade};
 use crate::history::History;
 use crate::rules::Rules;
 use crate::settlement::settlement_price;
@@ -15,6 +15,7 @@ pub const CROSSED: u8 = 6;
 pub const VOLUME: u8 = 7;
 pub const POSITION: u8 = 8;
 pub const NO_PRICE: u8 = 9;
+pub const TIME: u8 = 11;
 
 /// One step of the checking order.
 #[derive(Clone, Copy, Debug, PartialEq, Eq)]
@@ -22,6 +23,7 @@ pub enum Check {
     Day,
     Halt,
     Field,
+    Time,
     Crossed,
     BuyerVolume,
     SellerVolume,
@@ -30,11 +32,12 @@ pub enum Check {
     NoPrice,
 }
 
-/// 7 is tested for both accounts before 8 for either.
-pub const CHECKING_ORDER: [Check; 9] = [
+/// 7 is tested for both accounts before 8 for either; 02-4: 11 is "checked right after 5".
+pub const CHECKING_ORDER: [Check; 10] = [
     Check::Day,
     Check::Halt,
     Check::Field,
+    Check::Time,
     Check::Crossed,
     Check::BuyerVolume,
     Check::SellerVolume,
@@ -49,6 +52,7 @@ impl Check {
             Check::Day => DAY,
             Check::Halt => HALT,
             Check::Field => FIELD,
+            Check::Time => TIME,
             Check::Crossed => CROSSED,
             Check::BuyerVolume | Check::SellerVolume => VOLUME,
             Check::BuyerPosition | Check::SellerPosition => POSITION,
@@ -82,7 +86,10 @@ impl Asked<'_> {
             (Check::Day, _) => self.day_forbids(),
             (Check::Halt, _) => self.halt_forbids(),
             (Check::Field, _) => self.is_outside_field(),
-            (Check::Crossed, Call::Quote(market)) => self.rules.refusals.is_crossed(*market),
+            (Check::Time, Call::TimedQuote(quote)) => self.time_runs_back(quote.time),
+            (Check::Crossed, call) => call
+                .quoted()
+                .is_some_and(|market| self.rules.refusals.is_crossed(market)),
             (Check::BuyerVolume, Call::Trade(trade)) => self.passes_volume(trade, trade.buyer),
             (Check::SellerVolume, Call::Trade(trade)) => self.passes_volume(trade, trade.seller),
             (Check::BuyerPosition, Call::Trade(trade)) => self.passes_position(trade, trade.buyer),
@@ -104,7 +111,8 @@ impl Asked<'_> {
             Call::Fix(_) => refusals.fix_is_early(day, length) || day.is_fixed(),
             Call::Close => !day.is_fixed(),
             Call::LengthOfDay(_) => refusals.length_of_day_is_late(history),
-            Call::Trade(_) | Call::Quote(_) | Call::Halt | Call::Resume => false,
+            Call::Trade(_) | Call::Quote(_) | Call::TimedQuote(_) => false,
+            Call::Halt | Call::Resume => false,
         };
         forbidden || history.closed_days() >= refusals.most_closed_days()
     }
@@ -116,19 +124,28 @@ impl Asked<'_> {
     }
 
     /// "A nonzero quote side not ticked; an index or set price neither 0 nor a price"; 02-1: "Any other
-    /// length is refused by 5".
+    /// length is refused by 5"; 02-4: "A time above 59,999 is refused by 5".
     fn is_outside_field(&self) -> bool {
         let calls = self.rules.calls;
-        let is_no_side = |side: u32| side != 0 && !calls.is_ticked_price(side.into());
         match self.call {
             Call::Trade(trade) => self.trade_is_outside_field(trade),
-            Call::Quote(market) => is_no_side(market.bid) || is_no_side(market.offer),
+            Call::Quote(market) => self.market_is_outside_field(market),
+            Call::TimedQuote(quote) => {
+                !self.rules.refusals.is_time(quote.time)
+                    || self.market_is_outside_field(quote.market)
+            }
             Call::MinuteEnd(value) | Call::Fix(value) => {
                 value != 0 && !calls.is_price(value.into())
             }
             Call::LengthOfDay(minutes) => !calls.is_length(minutes),
             Call::Halt | Call::Resume | Call::Close => false,
         }
+    }
+
+    fn market_is_outside_field(&self, market: Market) -> bool {
+        let is_ticked_price = |side: u32| self.rules.calls.is_ticked_price(side.into());
+        let mut sides = [market.bid, market.offer].into_iter();
+        sides.any(|side| side != 0 && !is_ticked_price(side))
     }
 
     /// "Kind above 2; quantity 0, above 100,000, or below 250 for kind 2; a price no price; a kind 0
@@ -141,6 +158,12 @@ impl Asked<'_> {
         };
         let quantities = self.rules.refusals.quantities(trade.kind);
         trade.kind > BLOCK || !quantities.contains(&trade.quantity) || !priced
+    }
+
+    fn time_runs_back(&self, time: u16) -> bool {
+        let (days, place) = (&self.history.days, self.history.open_day().calls.len());
+        let latest = self.rules.midpoints.latest_time(days, place);
+        self.rules.refusals.time_runs_back(time, latest)
     }
 
     fn passes_volume(&self, trade: &Trade, account: Account) -> bool {
@@ -158,6 +181,6 @@ impl Asked<'_> {
 
     fn has_no_price(&self, set_price: u32) -> bool {
         let today = self.history.closed_days();
-        settlement_price(self.history, today, set_price, self.rules.calls).is_none()
+        settlement_price(self.history, today, set_price, self.rules).is_none()
     }
 }

@@ -3,16 +3,19 @@
 
 mod calls;
 mod files;
+mod midpoints;
 mod refusals;
 
 pub use calls::CallRules;
 pub use files::FileRules;
+pub use midpoints::MidpointRules;
 pub use refusals::RefusalRules;
 
 /// A ledger's rules. Each part is a trait whose default methods are the documents'.
 #[derive(Clone, Copy)]
 pub struct Rules {
     pub calls: &'static dyn CallRules,
+    pub midpoints: &'static dyn MidpointRules,
     pub refusals: &'static dyn RefusalRules,
     pub files: &'static dyn FileRules,
 }
@@ -20,6 +23,7 @@ pub struct Rules {
 impl Rules {
     pub const RIGHT: Rules = Rules {
         calls: &RightLedger,
+        midpoints: &RightLedger,
         refusals: &RightLedger,
         files: &RightLedger,
     };
@@ -29,5 +33,6 @@ impl Rules {
 pub struct RightLedger;
 
 impl CallRules for RightLedger {}
+impl MidpointRules for RightLedger {}
 impl RefusalRules for RightLedger {}
 impl FileRules for RightLedger {}

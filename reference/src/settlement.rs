@@ -3,8 +3,9 @@
 use crate::call::Call;
 use crate::fraction::Fraction;
 use crate::history::{Day, History};
+use crate::midpoints::midpoint_price;
 use crate::minutes::{valid_minutes, ValidMinute};
-use crate::rules::CallRules;
+use crate::rules::{CallRules, Rules};
 
 #[derive(Clone, Copy, Debug, PartialEq, Eq)]
 pub struct Settlement {
@@ -22,13 +23,16 @@ pub enum PriceRule {
     SetPrice,
     /// The last minute's trades.
     Trades,
+    /// The last minute's midpoints over time.
+    Midpoints,
     /// The day's index.
     Index,
 }
 
 /// What the fix of a day gives, none when the day isn't fixed.
-pub fn settlement(history: &History, day: usize, rules: &dyn CallRules) -> Option<Settlement> {
+pub fn settlement(history: &History, day: usize, rules: Rules) -> Option<Settlement> {
     let price = fixed_price(history, day, rules)?;
+    let rules = rules.calls;
     let minutes = valid_minutes(history, day, rules);
     let rate = rules.rate(average_basis(&minutes, rules));
     let rate = rate.clamped(rules.terms(day).clamp);
@@ -53,7 +57,7 @@ pub fn average_basis(minutes: &[ValidMinute], rules: &dyn CallRules) -> Fraction
 }
 
 /// The settlement price of a fixed day.
-fn fixed_price(history: &History, day: usize, rules: &dyn CallRules) -> Option<i128> {
+fn fixed_price(history: &History, day: usize, rules: Rules) -> Option<i128> {
     let set_price = history.days[day].set_price()?;
     settlement_price(history, day, set_price, rules)
 }
@@ -63,13 +67,19 @@ pub fn settlement_price(
     history: &History,
     day: usize,
     set_price: u32,
-    rules: &dyn CallRules,
+    rules: Rules,
 ) -> Option<i128> {
-    rules.price_rules().iter().find_map(|rule| match rule {
-        PriceRule::SetPrice => Some(i128::from(set_price)).filter(|price| *price != 0),
-        PriceRule::Trades => traded_price(&history.days[..=day], rules),
-        PriceRule::Index => index_price(history, day, rules),
-    })
+    let days = &history.days[..=day];
+    rules
+        .calls
+        .price_rules()
+        .iter()
+        .find_map(|rule| match rule {
+            PriceRule::SetPrice => Some(i128::from(set_price)).filter(|price| *price != 0),
+            PriceRule::Trades => traded_price(days, rules.calls),
+            PriceRule::Midpoints => midpoint_price(days, rules),
+            PriceRule::Index => index_price(history, day, rules),
+        })
 }
 
 /// "When n > 0, half-even of gross / n", for the last of the days.
@@ -88,11 +98,12 @@ fn traded_price(days: &[Day], rules: &dyn CallRules) -> Option<i128> {
 }
 
 /// By the indexes of the day and the closed day before, and that day's price.
-fn index_price(history: &History, day: usize, rules: &dyn CallRules) -> Option<i128> {
+fn index_price(history: &History, day: usize, rules: Rules) -> Option<i128> {
     let previous_price = match day {
         0 => 0,
         _ => fixed_price(history, day - 1, rules)?,
     };
+    let rules = rules.calls;
     let index = rules.index(&history.days[..=day]);
     let previous_index = rules.previous_index(&history.days[..day]);
     rules.index_price(index, previous_price, previous_index)

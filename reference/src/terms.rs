@@ -15,6 +15,12 @@ pub const CASH_PER_CENT: i128 = 100;
 pub const FULL_DAY: u16 = 1_320;
 pub const SHORT_DAY: u16 = 1_140;
 
+/// 02-4: the times of quotes are "0 to 59,999".
+pub const LATEST_TIME: u16 = 59_999;
+
+/// 02-4: when a minute ends, in milliseconds: "60,000".
+pub const END_OF_MINUTE: u16 = 60_000;
+
 #[derive(Clone, Copy, Debug, PartialEq, Eq)]
 pub struct Terms {
     /// In nano.

@@ -38,14 +38,16 @@ fn sizes_and_short_inputs() {
     assert_eq!(bench(&[1]), "end\n");
     assert_eq!(bench(&[10, 7]), "refused 1 record 1\nend\n");
     assert_eq!(bench(&[10, 9, 0]), "refused 1 record 1\nend\n");
+    assert_eq!(bench(&[10, 77, 0]), "refused 1 record 1\nend\n");
     assert_eq!(c_run(2, &[4, 0, 0]), (0, None));
     assert_eq!(c_run(1, &[9, 0, 0]), (0, Some(([0; 256], [0; 256]))));
+    assert_eq!(c_run(1, &[77, 0, 0]), (0, Some(([0; 256], [0; 256]))));
 }
 
 #[test]
 fn unknown_wrong_length_and_cut_off_records() {
     let mut file = Writer::new();
-    file.record(9, b"any")
+    file.record(77, b"any")
         .record(4, &[5, 0, 0])
         .resume()
         .halt()
@@ -60,7 +62,7 @@ fn unknown_wrong_length_and_cut_off_records() {
 fn the_bench_counts_65536_bytes_with_the_size_byte() {
     let filler = |length: usize| {
         let mut file = Writer::new();
-        file.record(9, &vec![0; length - 1 - 3 - 3]).resume();
+        file.record(77, &vec![0; length - 1 - 3 - 3]).resume();
         file
     };
     assert_eq!(printout(1, &filler(65_536)), "refused 4 record 2\nend\n");

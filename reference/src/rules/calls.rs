@@ -72,9 +72,11 @@ pub trait CallRules: Sync {
     /// market".
     fn minute_market(&self, at_start: Option<Market>, calls: &[Call]) -> Option<Market> {
         let last = calls.iter().rev().find_map(|call| match call {
-            Call::Quote(market) if market.is_two_sided() => Some(Some(*market)),
             Call::Halt => Some(None),
-            _ => None,
+            _ => call
+                .quoted()
+                .filter(|market| market.is_two_sided())
+                .map(Some),
         });
         last.unwrap_or(at_start)
     }
@@ -167,9 +169,8 @@ pub trait CallRules: Sync {
     /// "The next minute's market is the standing market if two-sided, else none."
     fn next_minute_market(&self, at_start: Option<Market>, calls: &[Call]) -> Option<Market> {
         let standing = calls.iter().rev().find_map(|call| match call {
-            Call::Quote(market) => Some(Some(*market).filter(|market| market.is_two_sided())),
             Call::Halt => Some(None),
-            _ => None,
+            _ => call.quoted().map(two_sided),
         });
         standing.unwrap_or(at_start)
     }
@@ -183,14 +184,25 @@ pub trait CallRules: Sync {
     // Fix.
 
     /// "The set price if given; else, when n > 0, half-even of gross / n; else day's index + previous
-    /// price − previous index."
+    /// price − previous index." 02-4: the step of the midpoints "stands after trades and before the
+    /// index step".
     fn price_rules(&self) -> &'static [PriceRule] {
-        &[PriceRule::SetPrice, PriceRule::Trades, PriceRule::Index]
+        &[
+            PriceRule::SetPrice,
+            PriceRule::Trades,
+            PriceRule::Midpoints,
+            PriceRule::Index,
+        ]
     }
 
     /// "Half-even of gross / n."
     fn average_price(&self, gross: i128, contracts: i128) -> i128 {
         self.half_even(Fraction::new(gross, contracts))
+    }
+
+    /// 02-4: "The sum over the total, half-even"; `exact` is the quotient.
+    fn average_midpoint(&self, exact: Fraction) -> i128 {
+        self.half_even(exact)
     }
 
     /// "When all three are nonzero and the result is a price."
@@ -232,6 +244,10 @@ pub trait CallRules: Sync {
     fn amounts(&self, trade: &AccountTrade, closed: &ClosedDays) -> i128 {
         closed.amounts_from(trade.day)
     }
+}
+
+fn two_sided(market: Market) -> Option<Market> {
+    Some(market).filter(|market| market.is_two_sided())
 }
 
 #[cfg(test)]

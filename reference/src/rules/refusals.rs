@@ -3,11 +3,12 @@
 use crate::call::{Call, Market};
 use crate::history::{Day, History};
 use crate::refusal::{Check, CHECKING_ORDER};
+use crate::terms::LATEST_TIME;
 use dayformat::kind::{BLOCK, SIMPLE};
 use std::ops::RangeInclusive;
 
 pub trait RefusalRules: Sync {
-    /// "Refusals, in checking order": 3 to 9.
+    /// "Refusals, in checking order": 3 to 9, and 11.
     fn checking_order(&self, _call: Call) -> &'static [Check] {
         &CHECKING_ORDER
     }
@@ -37,7 +38,8 @@ pub trait RefusalRules: Sync {
     /// end", and another record.
     fn begins_date(&self, call: Call) -> bool {
         match call {
-            Call::Quote(_) | Call::Trade(_) | Call::Halt | Call::Resume => true,
+            Call::Quote(_) | Call::TimedQuote(_) | Call::Trade(_) => true,
+            Call::Halt | Call::Resume => true,
             Call::MinuteEnd(_) | Call::LengthOfDay(_) => true,
             Call::Fix(_) | Call::Close => false,
         }
@@ -46,7 +48,7 @@ pub trait RefusalRules: Sync {
     /// 4: "A trade, quote or halt comes while halted, or a resume while not."
     fn halt_forbids(&self, call: Call, halted: bool) -> bool {
         match call {
-            Call::Trade(_) | Call::Quote(_) | Call::Halt => halted,
+            Call::Trade(_) | Call::Quote(_) | Call::TimedQuote(_) | Call::Halt => halted,
             Call::Resume => !halted,
             Call::MinuteEnd(_) | Call::Fix(_) | Call::Close | Call::LengthOfDay(_) => false,
         }
@@ -63,6 +65,16 @@ pub trait RefusalRules: Sync {
     /// 5: "a kind 0 price not ticked".
     fn kind_is_ticked(&self, kind: u8) -> bool {
         kind == SIMPLE
+    }
+
+    /// 5, 02-4: "A time above 59,999".
+    fn is_time(&self, time: u16) -> bool {
+        time <= LATEST_TIME
+    }
+
+    /// 11, 02-4: "one that runs back within its minute", which has this latest time.
+    fn time_runs_back(&self, time: u16, latest: u16) -> bool {
+        time < latest
     }
 
     /// 6: "Both quote sides stand and the bid isn't below the offer."

@@ -6,7 +6,7 @@ use dayformat::{tag, Writer};
 
 /// The file with one damage to it.
 pub fn damage(random: &mut Random, file: &[u8]) -> Vec<u8> {
-    match random.below(12) {
+    match random.below(13) {
         0 => truncate(random, file),
         1 => truncate_record(random, file),
         2 | 3 => insert(random, file, unknown_record),
@@ -16,7 +16,8 @@ pub fn damage(random: &mut Random, file: &[u8]) -> Vec<u8> {
         7 => rearrange(random, file),
         8 => insert(random, file, random_bytes),
         9 => insert_many(random, file),
-        _ => damage_length_of_day(random, file),
+        10 => damage_one_of(random, file, tag::LENGTH_OF_DAY),
+        _ => damage_one_of(random, file, tag::TIMED_QUOTE),
     }
 }
 
@@ -62,7 +63,7 @@ fn insert_many(random: &mut Random, file: &[u8]) -> Vec<u8> {
 }
 
 fn unknown_record(random: &mut Random) -> Vec<u8> {
-    let tag = random.pick(&[0, 9, 10, 11, 12, 77, 255]);
+    let tag = random.pick(&[0, 10, 11, 12, 13, 77, 255]);
     record(random, tag)
 }
 
@@ -105,27 +106,28 @@ fn change_length(random: &mut Random, file: &[u8]) -> Vec<u8> {
     if !records.is_empty() {
         let at = random.below(records.len() as u32) as usize;
         if let Some(low) = records[at].get_mut(2) {
-            *low = random.pick(&[0, 2, 3, 4, 5, 7, 8, 11, 12, 255]);
+            *low = random.pick(&[0, 2, 3, 4, 5, 7, 8, 9, 10, 11, 12, 255]);
         }
     }
     records.concat()
 }
 
-/// Breaks, cuts off, changes, doubles or moves one of the length of day records, if there is one.
-fn damage_length_of_day(random: &mut Random, file: &[u8]) -> Vec<u8> {
+/// Breaks, cuts off, changes, doubles or moves one of the records of a tag, if there is one.
+fn damage_one_of(random: &mut Random, file: &[u8], tag: u8) -> Vec<u8> {
     let mut records = split(file);
-    let is_length = |place: &usize| records[*place][0] == tag::LENGTH_OF_DAY;
-    let places: Vec<usize> = (0..records.len()).filter(is_length).collect();
+    let is_of_tag = |place: &usize| records[*place][0] == tag;
+    let places: Vec<usize> = (0..records.len()).filter(is_of_tag).collect();
     if places.is_empty() {
         return file.to_vec();
     }
     let at = random.pick(&places);
     let next = (at + 1).min(records.len() - 1);
     match random.below(5) {
-        0 => records[at] = record(random, tag::LENGTH_OF_DAY),
+        0 => records[at] = record(random, tag),
         1 => {
             records.truncate(at + 1);
-            records[at].truncate(random.between(1, 4) as usize);
+            let length = records[at].len() as u32;
+            records[at].truncate(random.between(1, length.saturating_sub(1).max(1)) as usize);
         }
         2 => records[at] = change_byte(random, &records[at]),
         3 => records.insert(at, records[at].clone()),

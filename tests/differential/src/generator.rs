@@ -1,5 +1,7 @@
 //! What the profiles write their files with: markets, trades and days around a price level.
 
+mod quotes;
+
 use crate::random::Random;
 use dayformat::{kind, Writer};
 use reference::terms::{FULL_DAY, SHORT_DAY};
@@ -13,6 +15,15 @@ pub struct Generator {
     pub size: u8,
     /// The ticked price that quotes, trades and indexes lie around.
     pub level: u32,
+    times: Times,
+}
+
+/// The latest time of the minute under way.
+#[derive(Default)]
+struct Times {
+    latest: u16,
+    /// The bytes of the file that it was read from.
+    read: usize,
 }
 
 /// No lengths of a day: at both ends of the field and beside the two lengths.
@@ -45,6 +56,7 @@ impl Generator {
             file: Writer::new(),
             size,
             level,
+            times: Times::default(),
         }
     }
 
@@ -111,45 +123,6 @@ impl Generator {
         (self.near_price() / 10 * 10).max(5_000)
     }
 
-    /// A two-sided quote well within the spread limit.
-    pub fn tight_quote(&mut self) {
-        let bid = self.near_ticked_price().min(49_999_000);
-        let width = self.random.between(1, (bid / 2_500).clamp(1, 20));
-        self.file.quote(bid, bid + 10 * width);
-    }
-
-    pub fn one_sided_quote(&mut self) {
-        let price = self.near_ticked_price();
-        match self.random.below(3) {
-            0 => self.file.quote(price, 0),
-            1 => self.file.quote(0, price),
-            _ => self.file.quote(0, 0),
-        };
-    }
-
-    /// A two-sided quote beyond the spread limit.
-    pub fn wide_quote(&mut self) {
-        let bid = self.near_ticked_price();
-        let offer = (bid / 10 + bid / 1_000 + 10) * 10;
-        self.file.quote(bid - bid / 100 / 10 * 10, offer);
-    }
-
-    /// A two-sided quote whose bid isn't below its offer.
-    pub fn crossed_quote(&mut self) {
-        let offer = self.near_ticked_price().min(49_999_000);
-        let above = self.random.pick(&[0, 10, 100]);
-        self.file.quote(offer + above, offer);
-    }
-
-    pub fn any_quote(&mut self) {
-        match self.random.below(12) {
-            0..=3 => self.one_sided_quote(),
-            4 | 5 => self.wide_quote(),
-            6 => self.crossed_quote(),
-            _ => self.tight_quote(),
-        }
-    }
-
     /// A trade of any kind with values in their fields.
     pub fn any_trade(&mut self) {
         let accounts = match self.random.chance(15) {
@@ -203,6 +176,14 @@ impl Generator {
             false => self.near_price(),
         };
         self.file.minute_ends(count, index);
+    }
+
+    /// The last minute without a trade, now and then after the market has ended.
+    pub fn quiet_last_minute(&mut self) {
+        if self.random.chance(40) {
+            self.one_sided_quote();
+        }
+        self.quiet_minutes(1);
     }
 
     /// `count` minutes in all, with `events` called in some of them. It gives the number of

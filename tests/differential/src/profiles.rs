@@ -5,13 +5,14 @@ mod files;
 mod lengths;
 mod limits;
 mod markets;
+mod midpoints;
 mod settlements;
 
 use crate::damage::damage;
 use crate::generator::Generator;
 use reference::terms::SHORT_DAY;
 
-const PROFILES: [fn(&mut Generator); 20] = [
+const PROFILES: [fn(&mut Generator); 23] = [
     markets::busy_days,
     markets::few_valid_minutes,
     markets::half_pennies,
@@ -23,6 +24,9 @@ const PROFILES: [fn(&mut Generator); 20] = [
     settlements::many_days,
     settlements::round_trips,
     settlements::carried_halts,
+    midpoints::quiet_last_minutes,
+    midpoints::half_cents,
+    midpoints::times_of_a_minute,
     limits::positions_and_volumes,
     limits::fields,
     days::out_of_order,
@@ -77,5 +81,6 @@ pub fn long_input(seed: u64) -> Vec<u8> {
         generator.file.fix(set_price).close();
     }
     generator.file.length_of_day(SHORT_DAY);
+    generator.file.timed_quote(0, 0, 0);
     generator.input()
 }

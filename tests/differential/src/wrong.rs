@@ -4,19 +4,23 @@
 mod accounts;
 mod files;
 mod lengths;
+mod midpoints;
 mod minutes;
 mod refusals;
 mod rounding;
 mod settlement;
+mod times;
 
 use accounts::*;
 use files::*;
 use lengths::*;
+use midpoints::*;
 use minutes::*;
-use reference::rules::{CallRules, FileRules, RefusalRules, Rules};
+use reference::rules::{CallRules, FileRules, MidpointRules, RefusalRules, Rules};
 use refusals::*;
 use rounding::*;
 use settlement::*;
+use times::*;
 
 pub struct WrongLedger {
     pub name: &'static str,
@@ -30,6 +34,14 @@ pub fn named(name: &str) -> Option<&'static WrongLedger> {
 const fn in_calls(name: &'static str, calls: &'static dyn CallRules) -> WrongLedger {
     let rules = Rules {
         calls,
+        ..Rules::RIGHT
+    };
+    WrongLedger { name, rules }
+}
+
+const fn in_midpoints(name: &'static str, midpoints: &'static dyn MidpointRules) -> WrongLedger {
+    let rules = Rules {
+        midpoints,
         ..Rules::RIGHT
     };
     WrongLedger { name, rules }
@@ -52,7 +64,7 @@ const fn in_files(name: &'static str, files: &'static dyn FileRules) -> WrongLed
 }
 
 /// A static, so that their rules are compiled here alone.
-pub static ALL: [WrongLedger; 98] = [
+pub static ALL: [WrongLedger; 150] = [
     // Rounding.
     in_calls("tie-up", &TieUp),
     in_calls("tie-away-from-zero", &TieAwayFromZero),
@@ -97,6 +109,62 @@ pub static ALL: [WrongLedger; 98] = [
     in_calls("first-day-at-index", &FirstDayAtIndex),
     in_calls("trades-before-set-price", &TradesBeforeSetPrice),
     in_calls("index-rule-unbounded", &IndexRuleUnbounded),
+    // Midpoints over the last minute.
+    in_calls("midpoints-before-set-price", &MIDPOINTS_BEFORE_SET_PRICE),
+    in_calls("midpoints-before-trades", &MIDPOINTS_BEFORE_TRADES),
+    in_calls("index-before-midpoints", &INDEX_BEFORE_MIDPOINTS),
+    in_calls("midpoints-left-out", &MIDPOINTS_LEFT_OUT),
+    in_calls("midpoint-average-down", &AVERAGE_DOWN),
+    in_calls("midpoint-average-tie-up", &AVERAGE_TIE_UP),
+    in_calls("midpoint-average-to-tick", &AVERAGE_TO_TICK),
+    in_midpoints("minute-market-weighed", &MINUTE_MARKET_WEIGHED),
+    in_midpoints("market-weighed-through-halt", &WEIGHED_THROUGH_HALT),
+    in_midpoints("timed-quote-not-weighed", &TIMED_QUOTE_NOT_WEIGHED),
+    in_midpoints("timed-quote-alone-weighed", &TIMED_QUOTE_ALONE_WEIGHED),
+    in_midpoints("one-side-weighed", &ONE_SIDE_WEIGHED),
+    in_midpoints("half-of-one-side-weighed", &HALF_OF_ONE_SIDE_WEIGHED),
+    in_midpoints("spread-limit-on-midpoints", &SpreadLimitOnMidpoints),
+    in_midpoints("midpoints-not-weighted", &MidpointsNotWeighted),
+    in_midpoints("half-minute-needed", &HalfMinuteNeeded),
+    in_midpoints("market-at-start-not-weighed", &MarketAtStartNotWeighed),
+    in_midpoints("start-from-minute-before", &StartFromMinuteBefore),
+    in_midpoints("untimed-from-minute-before", &UntimedFromMinuteBefore),
+    in_midpoints("untimed-quote-from-start", &UntimedQuoteFromStart),
+    in_midpoints("time-lost-at-one-sided-quote", &TimeLostAtOneSidedQuote),
+    in_midpoints("end-of-minute-not-added", &EndOfMinuteNotAdded),
+    in_midpoints("end-of-minute-one-less", &EndOfMinuteOneLess),
+    in_midpoints("next-market-weighed", &NextMarketWeighed),
+    in_midpoints("timed-quote-needed", &TimedQuoteNeeded),
+    in_midpoints("weighed-from-timed-quote", &WeighedFromTimedQuote),
+    in_midpoints("midpoints-of-minute-1320", &MIDPOINTS_OF_MINUTE_1320),
+    in_midpoints("midpoints-of-minute-before", &MIDPOINTS_OF_MINUTE_BEFORE),
+    in_midpoints("time-after-last-minute-end", &TimeAfterLastMinuteEnd),
+    in_midpoints("close-keeps-weights", &CloseKeepsWeights),
+    // Times of quotes.
+    in_midpoints("minute-end-keeps-time", &MinuteEndKeepsTime),
+    in_midpoints("close-keeps-time", &CloseKeepsTime),
+    in_midpoints("time-reset-by-halt", &TIME_RESET_BY_HALT),
+    in_midpoints("time-reset-by-resume", &TIME_RESET_BY_RESUME),
+    in_midpoints("time-reset-by-untimed-quote", &TIME_RESET_BY_UNTIMED_QUOTE),
+    in_midpoints("time-reset-by-fix", &TIME_RESET_BY_FIX),
+    in_midpoints("refused-quote-gives-time", &RefusedQuoteGivesTime),
+    in_midpoints("time-in-last-minute-only", &TIME_IN_LAST_MINUTE_ONLY),
+    in_midpoints("time-from-last-minute-on", &TIME_FROM_LAST_MINUTE_ON),
+    in_midpoints("time-up-to-last-minute", &TIME_UP_TO_LAST_MINUTE),
+    in_refusals("time-limit-one-less", &TIME_LIMIT_ONE_LESS),
+    in_refusals("time-limit-one-more", &TIME_LIMIT_ONE_MORE),
+    in_refusals("any-time-accepted", &ANY_TIME_ACCEPTED),
+    in_refusals("equal-times-refused", &EqualTimesRefused),
+    in_refusals("one-millisecond-back-accepted", &OneMillisecondBackAccepted),
+    in_refusals("time-before-field", &TIME_BEFORE_FIELD),
+    in_refusals("time-before-halt", &TIME_BEFORE_HALT),
+    in_refusals("crossed-before-time", &CROSSED_BEFORE_TIME),
+    in_refusals("timed-quote-accepted-in-halt", &TimedQuoteAcceptedInHalt),
+    in_calls("timed-quote-not-minute-market", &TimedQuoteNotMinuteMarket),
+    in_calls(
+        "timed-quote-not-next-market",
+        &TimedQuoteNotNextMinuteMarket,
+    ),
     // Positions, volumes and cash.
     in_calls("amount-on-positions-at-fix", &AmountOnPositionsAtFix),
     in_calls("close-keeps-cost", &CloseKeepsCost),
@@ -138,6 +206,7 @@ pub static ALL: [WrongLedger; 98] = [
     in_refusals("length-after-length", &LENGTH_AFTER_LENGTH),
     in_refusals("length-after-1320", &LENGTH_AFTER_1320),
     in_refusals("length-after-quote", &LENGTH_AFTER_QUOTE),
+    in_refusals("length-after-timed-quote", &LENGTH_AFTER_TIMED_QUOTE),
     in_refusals("length-after-trade", &LENGTH_AFTER_TRADE),
     in_refusals("length-after-block", &LENGTH_AFTER_BLOCK),
     in_refusals("length-after-halt", &LENGTH_AFTER_HALT),

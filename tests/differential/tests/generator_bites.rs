@@ -2,7 +2,10 @@
 
 use differential::profiles::{input, long_input};
 use differential::wrong::{WrongLedger, ALL};
-use reference::{bench, bench_under, library_printout, library_printout_under};
+use reference::printout::{bench_text, library_text};
+use reference::rules::{CallRules, Rules};
+use reference::settlement::{settlement_price, PriceRule};
+use reference::{bench, bench_under, library_printout, library_printout_under, run};
 
 const FILES: u64 = 1_000;
 /// A ledger that every second file has told apart so often is played no further.
@@ -16,8 +19,13 @@ struct Bites {
 }
 
 fn differs(wrong: &WrongLedger, input: &[u8], bench: &str, library: &str) -> bool {
-    bench_under(wrong.rules, input) != bench
-        || library_printout_under(wrong.rules, input) != library
+    let played = run(wrong.rules, input);
+    let played = played.as_ref();
+    let bench_differs = match input.len() <= wrong.rules.files.bench_limit() {
+        true => bench_text(played) != bench,
+        false => bench_under(wrong.rules, input) != bench,
+    };
+    bench_differs || library_text(played) != library
 }
 
 /// The bites of every second seed, for each wrong ledger.
@@ -65,7 +73,7 @@ fn every_wrong_ledger_is_told_apart() {
 
 #[test]
 fn every_refusal_of_a_file_is_met() {
-    let mut files = [0; 11];
+    let mut files = [0; 12];
     for seed in 0..FILES / 4 {
         let printout = bench(&input(seed));
         for (number, files) in files.iter_mut().enumerate() {
@@ -74,7 +82,53 @@ fn every_refusal_of_a_file_is_met() {
     }
     println!("files by refusal number: {files:?}");
     for (number, files) in files.iter().enumerate() {
-        let can_be_met = [1, 3, 4, 5, 6, 7, 8, 9].contains(&number);
+        let can_be_met = [1, 3, 4, 5, 6, 7, 8, 9, 11].contains(&number);
         assert_eq!(*files > 0, can_be_met, "refusal {number}");
     }
+}
+
+/// Settles by one of the rules alone.
+struct Only(&'static [PriceRule]);
+
+impl CallRules for Only {
+    fn price_rules(&self) -> &'static [PriceRule] {
+        self.0
+    }
+}
+
+/// For a set price, trades, midpoints and the index: the fixed days of a file that settle by it.
+fn days_by_rule(input: &[u8]) -> [usize; 4] {
+    static ALONE: [Only; 2] = [Only(&[PriceRule::Trades]), Only(&[PriceRule::Midpoints])];
+    let mut days = [0; 4];
+    let Some(played) = run(Rules::RIGHT, input) else {
+        return days;
+    };
+    for (number, day) in played.history.days.iter().enumerate() {
+        let gives_price = |calls| {
+            let rules = Rules {
+                calls,
+                ..Rules::RIGHT
+            };
+            settlement_price(&played.history, number, 0, rules).is_some()
+        };
+        let rule = match day.set_price() {
+            None => continue,
+            Some(0) => 1 + ALONE.iter().take_while(|rule| !gives_price(*rule)).count(),
+            Some(_) => 0,
+        };
+        days[rule] += 1;
+    }
+    days
+}
+
+#[test]
+fn days_settle_by_every_rule() {
+    let mut days = [0; 4];
+    for seed in 0..FILES / 4 {
+        for (sum, count) in days.iter_mut().zip(days_by_rule(&input(seed))) {
+            *sum += count;
+        }
+    }
+    println!("days by set price, trades, midpoints and index: {days:?}");
+    assert!(days.iter().all(|count| *count > 20), "{days:?}");
 }

@@ -10,7 +10,7 @@ pub fn random_bytes(generator: &mut Generator) {
     let small = random.chance(70);
     for _ in 0..random.below(400) {
         let byte = match small && random.chance(70) {
-            true => random.below(9) as u8,
+            true => random.below(11) as u8,
             false => random.byte(),
         };
         generator.file.bytes.push(byte);
@@ -43,7 +43,7 @@ pub fn bench_limit(generator: &mut Generator) {
     let gap = generator.random.below(12) as usize;
     generator
         .file
-        .record(9, &vec![0; BENCH_LIMIT - before - gap]);
+        .record(77, &vec![0; BENCH_LIMIT - before - gap]);
     for _ in 0..5 {
         match generator.random.below(4) {
             0 => generator.any_trade(),

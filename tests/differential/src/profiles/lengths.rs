@@ -1,14 +1,15 @@
 //! Lengths of day: where their record may come, and what goes by them.
 
 use crate::generator::Generator;
+use dayformat::kind::BLOCK;
 use dayformat::tag;
-use reference::terms::{FULL_DAY, SHORT_DAY};
+use reference::terms::{END_OF_MINUTE, FULL_DAY, SHORT_DAY};
 
 /// The record before and after the call that begins a date, a second one, and one after records that
 /// begin nothing.
 pub fn starts_of_dates(generator: &mut Generator) {
     let mut halted = false;
-    for _ in 0..generator.random.between(2, 6) {
+    for _ in 0..generator.random.between(3, 7) {
         for _ in 0..generator.random.below(3) {
             begin_nothing(generator, halted);
         }
@@ -16,7 +17,7 @@ pub fn starts_of_dates(generator: &mut Generator) {
             true => given_length(generator),
             false => usize::from(FULL_DAY) - first_call(generator, halted),
         };
-        for _ in 0..generator.random.below(3) {
+        for _ in 0..generator.random.below(4) {
             generator.any_length_of_day();
         }
         halted = rest_of_date(generator, left);
@@ -30,7 +31,7 @@ fn given_length(generator: &mut Generator) -> usize {
 
 /// A record that is refused or unknown.
 fn begin_nothing(generator: &mut Generator, halted: bool) {
-    match generator.random.below(9) {
+    match generator.random.below(10) {
         0 | 1 => generator.refused_length_of_day(),
         2 => generator.crossed_quote(),
         3 => {
@@ -52,6 +53,9 @@ fn begin_nothing(generator: &mut Generator, halted: bool) {
         7 => {
             generator.file.record(200, &[]);
         }
+        8 => {
+            generator.file.timed_quote(END_OF_MINUTE, 0, 0);
+        }
         _ => wrong_length_record(generator),
     }
 }
@@ -67,7 +71,7 @@ fn wrong_length_record(generator: &mut Generator) {
 
 /// A call that begins the date. It gives the minutes that it ends.
 fn first_call(generator: &mut Generator, halted: bool) -> usize {
-    match generator.random.below(5) {
+    match generator.random.below(7) {
         0 => {
             generator.quiet_minutes(1);
             return 1;
@@ -78,6 +82,13 @@ fn first_call(generator: &mut Generator, halted: bool) -> usize {
         1 => generator.tight_quote(),
         2 => generator.one_sided_quote(),
         3 => generator.any_trade(),
+        4 => {
+            let accounts = generator.two_accounts();
+            generator.file.trade(accounts, BLOCK, 250, 200_000);
+        }
+        5 => {
+            generator.file.timed_quote(0, 0, 0);
+        }
         _ => {
             generator.file.halt();
         }

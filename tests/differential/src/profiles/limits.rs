@@ -132,7 +132,7 @@ fn any_field(generator: &mut Generator) {
         }
         2 | 3 => {
             let (bid, offer) = (edge_price(generator), edge_price(generator));
-            generator.file.quote(bid, offer);
+            generator.quote(bid, offer);
         }
         4 => {
             let index = edge_price(generator);

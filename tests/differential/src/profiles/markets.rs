@@ -12,7 +12,7 @@ pub fn busy_days(generator: &mut Generator) {
         let busy = generator.random.between(5, 600) as usize;
         generator.minutes(length - 1, busy, Generator::busy_minute);
         generator.busy_minute();
-        generator.quiet_minutes(1);
+        generator.quiet_last_minute();
         generator.fix_and_close();
     }
 }
@@ -23,7 +23,7 @@ pub fn few_valid_minutes(generator: &mut Generator) {
         let length = generator.start_date();
         let valid = generator.random.between(1, 12) as usize;
         generator.minutes(length - 1, valid, one_valid_minute);
-        generator.quiet_minutes(1);
+        generator.quiet_last_minute();
         generator.fix_and_close();
     }
 }
@@ -121,13 +121,13 @@ fn spread_edge(generator: &mut Generator) -> usize {
         .pick(&[bid, offer, bid - 10, offer + 10, bid + 10, offer - 10]);
     let accounts = generator.two_accounts();
     let kind = generator.random.pick(&[SIMPLE, SPREAD, BLOCK]);
-    generator.file.quote(bid, offer);
+    generator.quote(bid, offer);
     if generator.random.chance(70) {
         generator.file.trade(accounts, kind, 250, last);
     }
     let index = generator.random.between(bid, offer);
     generator.file.minute_ends(1, index);
-    generator.file.quote(0, 0);
+    generator.quote(0, 0);
     1
 }
 
@@ -136,11 +136,11 @@ pub fn last_trades(generator: &mut Generator) {
     for _ in 0..generator.random.between(1, 5) {
         let length = generator.start_date();
         let (bid, offer) = market_at_level(generator);
-        generator.file.quote(bid, offer);
+        generator.quote(bid, offer);
         let busy = generator.random.between(1, 8) as usize;
         generator.minutes(length - 1, busy, trades_of_each_kind);
         trades_of_each_kind(generator);
-        generator.quiet_minutes(1);
+        generator.quiet_last_minute();
         generator.fix_and_close();
     }
 }
@@ -177,7 +177,7 @@ pub fn market_changes(generator: &mut Generator) {
         let length = generator.start_date();
         let busy = generator.random.between(1, 25) as usize;
         generator.minutes(length - 1, busy, market_change);
-        generator.quiet_minutes(1);
+        generator.quiet_last_minute();
         generator.fix_and_close();
         if generator.random.chance(30) {
             generator.file.resume();

@@ -15,7 +15,7 @@ pub fn last_minute(generator: &mut Generator) {
             true => tied_trades(generator),
             false => some_trades(generator),
         }
-        generator.quiet_minutes(1);
+        generator.quiet_last_minute();
         some_trades(generator);
         generator.fix_and_close();
     }
@@ -43,14 +43,24 @@ fn tied_trades(generator: &mut Generator) {
     }
 }
 
-/// Quiet days that settle by the index, or can't until a set price comes.
+/// Days that settle by the index, their market having ended, or can't until a set price comes.
 pub fn index_days(generator: &mut Generator) {
+    if generator.random.chance(40) {
+        // So near an end of the field that the index gives no price now and then.
+        generator.level = generator.random.pick(&[5_010, 49_990_000]);
+    }
     for _ in 0..generator.random.between(2, 6) {
         let length = generator.start_date();
         if generator.random.chance(40) {
             generator.any_trade();
         }
+        if generator.random.chance(40) {
+            generator.tight_quote();
+        }
         generator.quiet_minutes(length - 1);
+        if generator.random.chance(90) {
+            generator.file.quote(0, 0);
+        }
         let index = last_index(generator);
         generator.file.minute_ends(1, index).fix(0);
         if generator.random.chance(60) {
@@ -85,7 +95,8 @@ pub fn many_days(generator: &mut Generator) {
             generator.any_trade();
         }
         let busy = generator.random.below(3) as usize;
-        generator.minutes(length, busy, new_market);
+        generator.minutes(length - 1, busy, new_market);
+        generator.quiet_last_minute();
         generator.fix_and_close();
     }
 }

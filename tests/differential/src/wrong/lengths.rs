@@ -85,6 +85,8 @@ pub static LENGTH_AFTER_LENGTH: LengthAfter =
     LengthAfter(|call| matches!(call, Call::LengthOfDay(_)));
 pub static LENGTH_AFTER_1320: LengthAfter = LengthAfter(|call| call == Call::LengthOfDay(FULL_DAY));
 pub static LENGTH_AFTER_QUOTE: LengthAfter = LengthAfter(|call| matches!(call, Call::Quote(_)));
+pub static LENGTH_AFTER_TIMED_QUOTE: LengthAfter =
+    LengthAfter(|call| matches!(call, Call::TimedQuote(_)));
 pub static LENGTH_AFTER_TRADE: LengthAfter = LengthAfter(|call| matches!(call, Call::Trade(_)));
 pub static LENGTH_AFTER_BLOCK: LengthAfter =
     LengthAfter(|call| matches!(call, Call::Trade(trade) if trade.kind == BLOCK));
@@ -99,7 +101,7 @@ pub struct DateBegunBy(pub fn(&Record) -> bool);
 impl RefusalRules for DateBegunBy {
     fn length_of_day_is_late(&self, history: &History) -> bool {
         let mut not_accepted = history.open_day().not_accepted.iter();
-        RightLedger.length_of_day_is_late(history) || not_accepted.any(self.0)
+        RightLedger.length_of_day_is_late(history) || not_accepted.any(|not| self.0(&not.record))
     }
 }
 

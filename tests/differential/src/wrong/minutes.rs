@@ -157,9 +157,9 @@ pub struct WideQuoteIgnored;
 
 impl CallRules for WideQuoteIgnored {
     fn minute_market(&self, at_start: Option<Market>, calls: &[Call]) -> Option<Market> {
-        let is_wide = |call: &Call| match call {
-            Call::Quote(market) => !self.spread_is_valid(*market, self.terms(0)),
-            _ => false,
+        let is_wide = |call: &Call| {
+            let quoted = call.quoted();
+            quoted.is_some_and(|market| !self.spread_is_valid(market, self.terms(0)))
         };
         let calls: Vec<Call> = calls
             .iter()
@@ -187,10 +187,7 @@ pub struct ResumeRestoresMarket;
 
 impl CallRules for ResumeRestoresMarket {
     fn resumed_market(&self, earlier: &[Call]) -> Market {
-        let quoted = earlier.iter().rev().find_map(|call| match call {
-            Call::Quote(market) => Some(*market),
-            _ => None,
-        });
+        let quoted = earlier.iter().rev().find_map(|call| call.quoted());
         quoted.unwrap_or(Market::NONE)
     }
 }

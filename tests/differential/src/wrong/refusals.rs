@@ -16,10 +16,10 @@ impl RefusalRules for RefusedTradeTakesEffect {
     }
 }
 
-type Order = [Check; CHECKING_ORDER.len()];
+pub type Order = [Check; CHECKING_ORDER.len()];
 
 /// The order with a check moved up to just before another.
-const fn moved(mut order: Order, check: Check, before: Check) -> Order {
+pub const fn moved(mut order: Order, check: Check, before: Check) -> Order {
     let mut place = order.len() - 1;
     while place > 0 {
         if order[place] as u8 == check as u8 {
