@@ -4,7 +4,7 @@ use crate::market::{Market, Midpoints, MINUTE};
 use crate::price::{is_price, TICK};
 use crate::settlement::{amount, average, basis, rate};
 use dayformat::kind::{BLOCK, SIMPLE, SPREAD};
-use reference::refusal::{CROSSED, DAY, FIELD, HALT, NO_PRICE, POSITION, VOLUME};
+use reference::refusal::{CROSSED, DAY, FIELD, HALT, NO_PRICE, POSITION, TIME, VOLUME};
 
 pub const ACCOUNTS: usize = 256;
 /// The lengths of a day, in minutes.
@@ -15,9 +15,6 @@ const MOST_QUANTITY: u32 = 100_000;
 const LEAST_BLOCK: u32 = 250;
 const MOST_VOLUME: u32 = 2_000_000;
 const MOST_POSITION: i64 = 1_200_000;
-
-/// The refusal of a time that runs back within its minute.
-const TIME: u8 = 11;
 
 /// Nothing, or the number of the refusal.
 pub type Answer = Result<(), u8>;
