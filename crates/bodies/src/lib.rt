@@ -50,7 +50,7 @@ fn quote_at(file: &[u8], body: usize) -> Market
     }
 }
 
-fn timed_quote_at(file: &[u8], body: usize) -> TimedQuote
+pub fn timed_quote_at(file: &[u8], body: usize) -> TimedQuote
     requires { body + 10 ≤ length file.now }
     ensures { result ≡ timed_quote_at file.now body }
 {

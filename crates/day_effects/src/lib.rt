@@ -43,7 +43,10 @@ fn stood_until(day: Day, time: u32) -> Midpoints
     ensures { result ≡ stood_until day time }
 {
     let mut midpoints = day.timing.midpoints;
-    if day.is_in_last_minute() & day.markets.standing.is_two_sided() {
+    if !day.is_in_last_minute() {
+        return midpoints;
+    }
+    if day.markets.standing.is_two_sided() {
         let milliseconds = time - day.timing.latest;
         midpoints.total += milliseconds;
         midpoints.sum += u64::from(day.markets.standing.midpoint()) * u64::from(milliseconds);

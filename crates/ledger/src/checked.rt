@@ -5,7 +5,7 @@ ghost use Rattle.ledger.specs.Step.{answer_of, step};
 ghost use Rattle.ledger.specs.Inner.{WithinLimits};
 
 use crate::Book;
-use calls::{Call, Trade};
+use calls::{Call, TimedQuote, Trade};
 use figures::Outcome;
 use figures::product::Product;
 use refusals::Refusal;
@@ -58,7 +58,13 @@ impl CheckedBook {
         step(&mut self.book, call)
     }
 
-    // Two of them by themselves, which most records of a file are.
+    // Three of them by themselves, which most records of a file are.
+    pub fn timed_quote(&mut self, quote: TimedQuote) -> Outcome
+        ensures { answer_of result self.new.book ≡ step accounts self.old.book (Call.TimedQuote quote) }
+    {
+        outcomes::timed_quote(&mut self.book.figures, quote)
+    }
+
     pub fn minute_end(&mut self, index: u32) -> Outcome
         ensures { answer_of result self.new.book ≡ step accounts self.old.book (Call.MinuteEnd index) }
     {

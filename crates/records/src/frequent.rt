@@ -1,12 +1,12 @@
-// The records that most of a file is: minute ends and trades.
+// The records that most of a file is: timed quotes, minute ends and trades.
 ghost use Rattle.std.specs.Prelude.{◌≡◌, cond, ◌∷◌, [], ◌+◌, ◌≤◌, length};
 ghost use Rattle.tags.specs.declared.Tag.{Tag as Tag·Tag};
-ghost use Rattle.tags.specs.declared.Tag.TheVariants.{MinuteEnd, Trade};
+ghost use Rattle.tags.specs.declared.Tag.TheVariants.{MinuteEnd, TimedQuote, Trade};
 ghost use Rattle.tags.specs.Tags.{body_length};
 ghost use Rattle.bodies.specs.Body.{call_of};
 ghost use Rattle.records.specs.Run.{run_over};
 
-use bodies::{four_bytes, trade_at};
+use bodies::{four_bytes, timed_quote_at, trade_at};
 use ledger::checked::CheckedBook;
 use tags::Tag;
 
@@ -23,6 +23,20 @@ pub trait Frequent {
         requires { body + body_length tag ≤ length file.now }
         ensures { record { accepted = cond result 1 0; book = book.new.book }
             ≡ run_over book.old.book (call_of file.now tag body ∷ []) };
+}
+
+pub struct TimedQuotes;
+
+impl Frequent for TimedQuotes {
+    ghost tag = { TimedQuote };
+
+    fn tag() -> Tag {
+        Tag::TimedQuote
+    }
+
+    fn play(book: &mut CheckedBook, file: &[u8], body: usize) -> bool {
+        book.timed_quote(timed_quote_at(file, body)).is_ok()
+    }
 }
 
 pub struct MinuteEnds;

@@ -7,7 +7,7 @@ ghost use Rattle.records.specs.Run.{run_over, Running};
 
 use calls::Call;
 use dayfile::{HEAD, RecordError, is_record_at, read_record};
-use frequent::{Frequent, MinuteEnds, Trades};
+use frequent::{Frequent, MinuteEnds, TimedQuotes, Trades};
 use ledger::checked::CheckedBook;
 
 mod frequent;
@@ -37,6 +37,23 @@ fn play_all<F: Frequent>(book: &mut CheckedBook, file: &[u8], from: Progress) ->
     Progress { accepted, at }
 }
 
+// Plays the records of the three frequent kinds that follow one another from a place on, in any order.
+fn play_frequent(book: &mut CheckedBook, file: &[u8], from: Progress) -> Progress
+    requires { (from.accepted ≤ from.at) × (from.at ≤ length file.now) }
+    ensures { Running file.now book.old.book from.accepted from.at book.new.book result.accepted result.at }
+{
+    let mut progress = from;
+    loop {
+        let quotes = play_all::<TimedQuotes>(book, file, progress);
+        let ends = play_all::<MinuteEnds>(book, file, quotes);
+        let trades = play_all::<Trades>(book, file, ends);
+        if trades.at == progress.at {
+            return trades;
+        }
+        progress = trades;
+    }
+}
+
 // Makes a record's call, if it has one, and answers whether it was accepted.
 fn play(book: &mut CheckedBook, call: Result<Option<Call>, RecordError>) -> bool
     ensures { record { accepted = cond result 1 0; book = book.new.book } ≡ run_over book.old.book (called call []) }
@@ -48,8 +65,8 @@ fn play(book: &mut CheckedBook, call: Result<Option<Call>, RecordError>) -> bool
     }
 }
 
-// Runs a book over the records of a file, and answers how many it accepted. Minute ends and trades, which most records are, are
-// played by loops of their own, in which the machine has few numbers to keep.
+// Runs a book over the records of a file, and answers how many it accepted. Timed quotes, minute ends and trades, which most records
+// are, are played by loops of their own, in which the machine has few numbers to keep.
 pub fn run(book: &mut CheckedBook, file: &[u8]) -> u64
     ensures { record { accepted = result; book = book.new.book } ≡ run_over book.old.book (calls_of file.now) }
 {
@@ -61,8 +78,7 @@ pub fn run(book: &mut CheckedBook, file: &[u8]) -> u64
             accepted,
             at: read.next,
         };
-        let ends = play_all::<MinuteEnds>(book, file, after);
-        progress = play_all::<Trades>(book, file, ends);
+        progress = play_frequent(book, file, after);
     }
     progress.accepted
 }

@@ -1,0 +1,12 @@
+-- `TimedQuotes` plays a record as its call.
+use mathlib.Core.Path.{◌∙◌, ap}
+use Rattle.calls.specs.declared.Call.TheVariants as call
+use Rattle.columns.specs.Columns.{accounts}
+use Rattle.ledger.specs.Step.{step}
+use Rattle.records.proofs.Running.{one_call}
+use Rattle.records.proofs.frequent.TimedQuotesFrequent.play.Goals as goal
+
+pub returns : goal.returns
+returns c =
+    let b = c.args.book.now.book in
+    rw c.is_ok.ensures.value (one_call b _ c.timed_quote.result c.timed_quote.new.self.book (c.timed_quote.ensures ∙ ap (λ x. step accounts b (call.TimedQuote x)) c.timed_quote_at.ensures))
