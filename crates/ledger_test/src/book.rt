@@ -2,7 +2,7 @@
 use crate::numbers::{Mistake, Numbers};
 use calls::FULL_DAY;
 use columns::{ACCOUNTS, Columns};
-use day::{Day, Fixed, Markets, Minutes, Session, Trades};
+use day::{Day, Fixed, Markets, Minutes, Session, Timing, Trades};
 use figures::Figures;
 use ledger::Book;
 use settlement::Previous;
@@ -75,6 +75,7 @@ pub fn empty_book() -> Book {
                     length: FULL_DAY,
                     begun: true,
                 },
+                timing: Timing::default(),
             },
         },
         columns: Columns {

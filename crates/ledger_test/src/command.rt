@@ -1,6 +1,6 @@
 // What a case asks for.
 use crate::numbers::{Mistake, Numbers, name_of};
-use calls::{Call, Kind, Trade};
+use calls::{Call, Kind, TimedQuote, Trade};
 use funding::market::Market;
 use std::str::FromStr;
 
@@ -18,7 +18,7 @@ pub enum Command {
 
 impl Command {
     // The calls of a row, which ends with a report.
-    pub const ROW: [Call; 8] = [
+    pub const ROW: [Call; 9] = [
         Call::Quote(Market {
             bid: 200_100,
             offer: 200_300,
@@ -36,6 +36,13 @@ impl Command {
         Call::Fix(200_200),
         Call::Close,
         Call::DayLength(1_140),
+        Call::TimedQuote(TimedQuote {
+            time: 30_000,
+            market: Market {
+                bid: 200_100,
+                offer: 200_300,
+            },
+        }),
     ];
 }
 
@@ -46,6 +53,13 @@ fn trade(numbers: &mut Numbers<'_>) -> Result<Trade, Mistake> {
         kind: Kind::from(numbers.next::<u8>()?),
         quantity: numbers.next()?,
         price: numbers.next()?,
+    })
+}
+
+fn timed_quote(numbers: &mut Numbers<'_>) -> Result<TimedQuote, Mistake> {
+    Ok(TimedQuote {
+        time: numbers.next()?,
+        market: numbers.market()?,
     })
 }
 
@@ -60,6 +74,7 @@ fn call(name: &str, numbers: &mut Numbers<'_>) -> Result<Option<Call>, Mistake> 
         "fix" => Call::Fix(numbers.next()?),
         "close" => Call::Close,
         "day length" => Call::DayLength(numbers.next()?),
+        "timed quote" => Call::TimedQuote(timed_quote(numbers)?),
         _ => return Ok(None),
     }))
 }

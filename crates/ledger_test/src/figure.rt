@@ -23,6 +23,9 @@ pub enum Figure {
     FixedAmount,
     Length,
     Begun,
+    LatestTime,
+    Total,
+    Sum,
 }
 
 #[derive(Clone, Copy, PartialEq, Eq)]
@@ -34,7 +37,7 @@ pub enum Value {
 
 impl Figure {
     // Each figure with its name, in the order in which changes are printed.
-    pub const NAMED: [(Figure, &'static str); 18] = [
+    pub const NAMED: [(Figure, &'static str); 21] = [
         (Figure::Size, "size"),
         (Figure::Closed, "closed days"),
         (Figure::Halted, "halted"),
@@ -53,6 +56,9 @@ impl Figure {
         (Figure::FixedAmount, "fixed amount"),
         (Figure::Length, "length"),
         (Figure::Begun, "begun"),
+        (Figure::LatestTime, "latest time"),
+        (Figure::Total, "total"),
+        (Figure::Sum, "sum"),
     ];
 
     pub fn of(self, figures: &Figures) -> Value {
@@ -76,6 +82,9 @@ impl Figure {
             Figure::FixedPrice => day.fixed.price.into(),
             Figure::FixedAmount => day.fixed.amount.into(),
             Figure::Length => day.session.length.into(),
+            Figure::LatestTime => day.timing.latest.into(),
+            Figure::Total => day.timing.midpoints.total.into(),
+            Figure::Sum => day.timing.midpoints.sum.into(),
         };
         Value::Number(number)
     }
@@ -101,6 +110,9 @@ impl Figure {
             Figure::FixedAmount => numbers.set(&mut day.fixed.amount),
             Figure::Length => numbers.set(&mut day.session.length),
             Figure::Begun => numbers.set_flag(&mut day.session.begun),
+            Figure::LatestTime => numbers.set(&mut day.timing.latest),
+            Figure::Total => numbers.set(&mut day.timing.midpoints.total),
+            Figure::Sum => numbers.set(&mut day.timing.midpoints.sum),
         }
     }
 }

@@ -45,6 +45,7 @@ pub fn answer_to(book: Book, call: Call) -> Answer {
         Call::Fix(set) => book.fix(set),
         Call::Close => book.close(),
         Call::DayLength(minutes) => book.day_length(minutes),
+        Call::TimedQuote(quote) => book.timed_quote(quote),
     }
 }
 
