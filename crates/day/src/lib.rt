@@ -57,12 +57,11 @@ pub struct Session {
     pub begun: bool,
 }
 
-// What the times of quotes set.
+// The latest time, and the midpoints of the last minute so far.
 #[derive(Clone, Copy, Default)]
 pub struct Timing {
-    // the latest time given in the minute, in milliseconds
+    // given in the minute, in milliseconds
     pub latest: u32,
-    // those of the last minute
     pub midpoints: Midpoints,
 }
 

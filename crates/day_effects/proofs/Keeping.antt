@@ -36,7 +36,7 @@ use Rattle.day.specs.declared.Trades.{Trades}
 use Rattle.day.specs.declared.Fixed.{Fixed}
 use Rattle.day.specs.declared.Day.{Day}
 use Rattle.day.specs.Day.{day_length, is_fixed, forbids_length, in_last_minute, minute_of}
-use Rattle.day_effects.specs.Effects.{with_markets, with_minutes, with_trades, with_fixed, with_timing, begun, with_length, stood_until, timed, time_over, traded, minute_ended, next_minute}
+use Rattle.day_effects.specs.Effects.{with_markets, with_minutes, with_trades, with_fixed, with_timing, begun, with_length, stood_until, timing_after_quote, timing_after_minute, traded, minute_ended, next_minute}
 use Rattle.day_effects.proofs.Timing.{total_by, total_before, total_most, stood_total, stood_sum}
 use Rattle.day.specs.Limits.{most_amount, markets_hold}
 use Rattle.day.proofs.Held.{HeldDay, day_most, held_minute}
@@ -105,9 +105,9 @@ held-with_length d h l late hl =
 -- ---- a timed quote
 
 module _ (d : Day) (h : HeldDay d) (m : Markets) (hm : markets_hold m ≡ true) (time : ℕ) (forward : d.timing.latest ≤ time) (most : time ≤ most_time) where
-  pub held-timed : HeldDay (begun (with_timing (with_markets d m) (timed d time)))
+  pub held-timed : HeldDay (begun (with_timing (with_markets d m) (timing_after_quote d time)))
   held-timed =
-      let after = begun (with_timing (with_markets d m) (timed d time)) in
+      let after = begun (with_timing (with_markets d m) (timing_after_quote d time)) in
       let enough : time ≤ minute_length = omega arith in
       record {
         length = h.length;
@@ -172,7 +172,7 @@ module _ (d : Day) (h : HeldDay d) (t : Terms) (halted : Bool) (u : ℕ) (before
       record { sum = h.weighted; count = omega (arith, h.valid, day_most d h); size = basis_size F u i.0 i.1 f.0 f.1 }
 
   abbrev ended_day : Day
-  ended_day = begun (with_timing (with_minutes (with_markets d (next_minute d.markets)) (minute_ended d valid u)) (time_over d))
+  ended_day = begun (with_timing (with_minutes (with_markets d (next_minute d.markets)) (minute_ended d valid u)) (timing_after_minute d))
 
   pub held-minute_ended : is_fixed d ≡ false → HeldDay ended_day
   held-minute_ended unfixed =

@@ -1,4 +1,4 @@
--- What quotes, trades, minute ends and a length do to the day: document 01, "A trade date, call by call".
+-- What quotes, timed or not, trades, minute ends and a length do to the day: document 01, "A trade date, call by call".
 use Rattle.std.specs.Prelude.{Bool, true, cond, ℕ, ◌+◌, ◌-◌, ℤ}
 use Rattle.funding.specs.Minute.{basis_of, accrued}
 use Rattle.funding.specs.{declared.market.Market.Market, Market.no_market, Market.as_minute}
@@ -43,18 +43,18 @@ abbrev pub quoted : Markets → Market → Markets
 quoted m q = record { standing = q; minute = as_minute q m.minute }
 
 -- 02-4: "Over the last minute, each two-sided market weighs its midpoint by the milliseconds it stood, from minute start or its own time": the
--- standing market, which has stood since the latest time, up to this one
+-- standing market, which has stood since the latest time, up to this one. "Nothing after the last minute end adds time"
 abbrev pub stood_until : Day → ℕ → Midpoints
 stood_until d time =
     cond (in_last_minute (day_length d) d.minutes.ended) (with_market d.timing.midpoints d.markets.standing (time - d.timing.latest)) d.timing.midpoints
 
 -- 02-4: a timed quote: the market is "replaced", and its time is the latest
-abbrev pub timed : Day → ℕ → Timing
-timed d time = record { latest = time; midpoints = stood_until d time }
+abbrev pub timing_after_quote : Day → ℕ → Timing
+timing_after_quote d time = record { latest = time; midpoints = stood_until d time }
 
 -- 02-4: "each minute end … sets that time to 0"; the standing market stood "until … 60,000"
-abbrev pub time_over : Day → Timing
-time_over d = record { latest = 0; midpoints = stood_until d minute_length }
+abbrev pub timing_after_minute : Day → Timing
+timing_after_minute d = record { latest = 0; midpoints = stood_until d minute_length }
 
 -- 02-2: "only simple trades as the last trade price"; 01: a kind 0 trade of the last minute counts towards the settlement price
 abbrev pub traded : Day → Trade → Trades

@@ -3,7 +3,7 @@
 
 ghost use Rattle.std.specs.Prelude.{◌≡◌, cond};
 ghost use Rattle.day.specs.Day.{no_markets, with_market};
-ghost use Rattle.day_effects.specs.Effects.{with_markets, with_minutes, with_trades, with_fixed, with_timing, stood_until, timed, time_over, weighted_after, minute_ended, next_minute};
+ghost use Rattle.day_effects.specs.Effects.{with_markets, with_minutes, with_trades, with_fixed, with_timing, stood_until, timing_after_quote, timing_after_minute, weighted_after, minute_ended, next_minute};
 ghost use Rattle.day_effects.specs.Effects.{quoted as Effects·quoted};
 ghost use Rattle.day_effects.specs.Effects.{traded as Effects·traded};
 ghost use Rattle.day_effects.specs.Inner.{RoomForTrade, RoomForTime, Endable};
@@ -57,7 +57,7 @@ fn stood_until(day: Day, time: u32) -> Midpoints
 // A time that is no earlier than the latest, and room for it, are required.
 pub fn timed_quoted(day: Day, quote: TimedQuote) -> Day
     requires { RoomForTime day quote.time }
-    ensures { result ≡ with_timing (with_markets day (Effects·quoted day.markets quote.market)) (timed day quote.time) }
+    ensures { result ≡ with_timing (with_markets day (Effects·quoted day.markets quote.market)) (timing_after_quote day quote.time) }
 {
     let mut after = quoted(day, quote.market);
     after.timing = Timing {
@@ -116,7 +116,7 @@ fn index_after(before: u32, last: bool, index: u32) -> u32
 pub fn minute_ended(mut day: Day, valid: bool, index: u32) -> Day
     requires { Endable day valid index }
     ensures { result
-        ≡ with_timing (with_minutes (with_markets day (next_minute day.markets)) (minute_ended day valid index)) (time_over day) }
+        ≡ with_timing (with_minutes (with_markets day (next_minute day.markets)) (minute_ended day valid index)) (timing_after_minute day) }
 {
     let markets = next_minute(day.markets);
     let timing = Timing {

@@ -25,12 +25,12 @@ use Rattle.calls.specs.Length.{full_day, short_day, is_length}
 use Rattle.calls.specs.Time.{minute_length}
 use Rattle.day.specs.Day.{in_last_minute, no_midpoints, with_market}
 use Rattle.history.specs.History.{History, length_of, market, minutes, minute_ends, at_last_end}
-use Rattle.history.specs.LastMinute.{latest, Standing, minute_markets, Stood, stood, weighed, midpoints_on}
+use Rattle.history.specs.LastMinute.{latest, MarketFrom, minute_markets, MarketTime, stood, weighed, midpoints_on}
 
 -- ---- markets that stood
 
 -- one market more
-weighed_more : (m : Market) (t : ℕ) (xs : List Stood) → weighed (keep_if (two_sided m) (record { market = m; milliseconds = t }) xs) ≡ with_market (weighed xs) m t
+weighed_more : (m : Market) (t : ℕ) (xs : List MarketTime) → weighed (keep_if (two_sided m) (record { market = m; milliseconds = t }) xs) ≡ with_market (weighed xs) m t
 unfolding sum_count
 weighed_more m t xs = go (two_sided m)
   where
@@ -51,7 +51,7 @@ no_time x m t = go (two_sided m) (t - t) (omega arith)
 
 -- the standing market is the latest of the minute's, from the latest time
 record Head (h : History) : Type 0 where
-  rest : List Standing
+  rest : List MarketFrom
   is : minute_markets h ≡ record { market = market h; from = latest h } ∷ rest
 
 head : (h : History) → Head h
@@ -77,19 +77,19 @@ unfolding stood
 up_to h until =
     let earlier = stood (latest h) (head h).rest in
     let from-here : (t : ℕ) → weighed (stood t (minute_markets h)) ≡ with_market (weighed earlier) (market h) (t - latest h) =
-    λ t. ap (λ (l : List Standing). weighed (stood t l)) (head h).is ∙ weighed_more (market h) (t - latest h) earlier in
+    λ t. ap (λ (l : List MarketFrom). weighed (stood t l)) (head h).is ∙ weighed_more (market h) (t - latest h) earlier in
     let before : running h ≡ weighed earlier = from-here (latest h) ∙ no_time (weighed earlier) (market h) (latest h) in
     from-here until ∙ ap (λ x. with_market x (market h) (until - latest h)) (sym before)
 
 -- ---- a book's midpoints
 
 -- those of a whole last minute, none before its end
-abbrev other : History → Midpoints
-other h = cond (leb (length_of h) (minutes h)) (midpoints_on h) no_midpoints
+abbrev whole_minute : History → Midpoints
+whole_minute h = cond (leb (length_of h) (minutes h)) (midpoints_on h) no_midpoints
 
 -- those of the last minute, up to the latest time while it runs and up to its end after it
 abbrev pub midpoints_from : History → Midpoints
-midpoints_from h = cond (in_last_minute (length_of h) (minutes h)) (running h) (other h)
+midpoints_from h = cond (in_last_minute (length_of h) (minutes h)) (running h) (whole_minute h)
 
 -- what the standing market adds up to a time, in the last minute
 abbrev pub stood_to : History → ℕ → Midpoints
@@ -98,7 +98,7 @@ stood_to h time = cond (in_last_minute (length_of h) (minutes h)) (with_market (
 pub after_quote : (h : History) (m : Market) → midpoints_from h ≡ midpoints_from (call.Quote m ∷ h)
 unfolding length_of minute_ends latest minute_markets stood
 after_quote h m =
-    ap (λ v. cond (in_last_minute (length_of h) (minutes h)) v (other h))
+    ap (λ v. cond (in_last_minute (length_of h) (minutes h)) v (whole_minute h))
     (sym (weighed_more m (latest h - latest h) (stood (latest h) (minute_markets h)) ∙ no_time (running h) m (latest h)))
 
 pub after_halt : (h : History) → midpoints_from h ≡ midpoints_from (call.Halt ∷ h)
@@ -112,7 +112,7 @@ after_timed h q = go (in_last_minute (length_of h) (minutes h))
     added : with_market (running h) (market h) (q.time - latest h) ≡ running (call.TimedQuote q ∷ h)
     added = sym (weighed_more q.market (q.time - q.time) (stood q.time (minute_markets h)) ∙ no_time (weighed (stood q.time (minute_markets h))) q.market q.time ∙ up_to h q.time)
 
-    go : (b : Bool) → cond b (with_market (cond b (running h) (other h)) (market h) (q.time - latest h)) (cond b (running h) (other h)) ≡ cond b (running (call.TimedQuote q ∷ h)) (other h)
+    go : (b : Bool) → cond b (with_market (cond b (running h) (whole_minute h)) (market h) (q.time - latest h)) (cond b (running h) (whole_minute h)) ≡ cond b (running (call.TimedQuote q ∷ h)) (whole_minute h)
     go true = added
     go false = refl
 
@@ -124,12 +124,12 @@ after_minute h u before = go (in_last_minute (length_of h) (minutes h)) refl (in
     new = weighed_more (market h) 0 [] ∙ no_time no_midpoints (market h) 0
 
     -- no minute that has ended is the last
-    none : other h ≡ no_midpoints
+    none : whole_minute h ≡ no_midpoints
     none = ap (λ (over : Bool). cond over (midpoints_on h) no_midpoints) (lt-leb (length_of h) (minutes h) before)
 
     go : (last : Bool) → in_last_minute (length_of h) (minutes h) ≡ last
         → (next over : Bool) → in_last_minute (length_of h) (suc (minutes h)) ≡ next → leb (length_of h) (suc (minutes h)) ≡ over
-        → let b = cond last (running h) (other h) in
+        → let b = cond last (running h) (whole_minute h) in
         cond last (with_market b (market h) (minute_length - latest h)) b
         ≡ cond next (running (call.MinuteEnd u ∷ h)) (cond over (weighed (cond last (stood minute_length (minute_markets h)) (at_last_end [] (λ m. stood minute_length (minute_markets m.before)) (minute_ends h)))) no_midpoints)
     go true l true over n o = absurd (omega tests)
@@ -153,6 +153,6 @@ after_length h l before after e = before_any h before e ∙ sym (before_any (cal
 pub at_fix_time : (h : History) → length_of h ≤ minutes h → midpoints_from h ≡ midpoints_on h
 at_fix_time h over = go (in_last_minute (length_of h) (minutes h)) refl
   where
-    go : (last : Bool) → in_last_minute (length_of h) (minutes h) ≡ last → cond last (running h) (other h) ≡ midpoints_on h
+    go : (last : Bool) → in_last_minute (length_of h) (minutes h) ≡ last → cond last (running h) (whole_minute h) ≡ midpoints_on h
     go true l = absurd (omega tests)
     go false l = ap (λ (o : Bool). cond o (midpoints_on h) no_midpoints) (le-leb (length_of h) (minutes h) over)

@@ -1,7 +1,7 @@
 -- What an accepted call does to the figures: document 01, "A trade date, call by call".
 use Rattle.std.specs.Prelude.{Bool, true, false, ℕ, ◌+◌, Option, None, Some}
 use Rattle.day.specs.{declared.Fixed.Fixed, declared.Day.Day, Day.no_markets, Day.empty_day}
-use Rattle.day_effects.specs.Effects.{with_markets, with_minutes, with_trades, with_fixed, with_timing, quoted, timed, traded, minute_ended, time_over, next_minute, begun, with_length}
+use Rattle.day_effects.specs.Effects.{with_markets, with_minutes, with_trades, with_fixed, with_timing, quoted, timing_after_quote, traded, minute_ended, timing_after_minute, next_minute, begun, with_length}
 use Rattle.figures.specs.{declared.Figures.Figures, declared.Fixing.Fixing, Figures.terms_on, Fixing.fix_price, Fixing.fix_amount, Fixing.fixing_at}
 use Rattle.calls.specs.declared.Call.TheVariants as call
 use Rattle.funding.specs.Market.{is_valid}
@@ -40,11 +40,11 @@ figures_after f call.Halt = with_begun_day f true (with_markets f.day no_markets
 figures_after f call.Resume = with_begun_day f false f.day
 figures_after f (call.MinuteEnd u) =
     let valid = is_valid (terms_on f) f.halted f.day.markets.minute u in
-    with_begun_day f f.halted (with_timing (with_minutes (with_markets f.day (next_minute f.day.markets)) (minute_ended f.day valid u)) (time_over f.day))
+    with_begun_day f f.halted (with_timing (with_minutes (with_markets f.day (next_minute f.day.markets)) (minute_ended f.day valid u)) (timing_after_minute f.day))
 figures_after f (call.Fix set) = with_day f f.halted (with_fixed f.day (fixed_at f set))
 figures_after f call.Close = closed_figures f
 figures_after f (call.DayLength l) = with_begun_day f f.halted (with_length f.day l)
-figures_after f (call.TimedQuote q) = with_begun_day f f.halted (with_timing (with_markets f.day (quoted f.day.markets q.market)) (timed f.day q.time))
+figures_after f (call.TimedQuote q) = with_begun_day f f.halted (with_timing (with_markets f.day (quoted f.day.markets q.market)) (timing_after_quote f.day q.time))
 
 -- what an accepted call found, which only a fix does
 unfoldable pub fixing_of : Figures → Call → Option Fixing

@@ -44,9 +44,9 @@ fn play_frequent(book: &mut CheckedBook, file: &[u8], from: Progress) -> Progres
 {
     let mut progress = from;
     loop {
-        let quotes = play_all::<TimedQuotes>(book, file, progress);
-        let ends = play_all::<MinuteEnds>(book, file, quotes);
-        let trades = play_all::<Trades>(book, file, ends);
+        let ends = play_all::<MinuteEnds>(book, file, progress);
+        let quotes = play_all::<TimedQuotes>(book, file, ends);
+        let trades = play_all::<Trades>(book, file, quotes);
         if trades.at == progress.at {
             return trades;
         }

@@ -46,7 +46,7 @@ halt_forbids halted c = on_trade (λ t. halted) (on_quote (λ m. halted) (on_hal
 abbrev pub sides_outside : Market → Bool
 sides_outside m = not (none_or_ticked m.bid && none_or_ticked m.offer)
 
--- 5: "A value is outside its field: …; a nonzero quote side … not ticked; an index or set price neither 0 nor a price"; 02-1: "Any other length is refused by 5";
+-- 5: "A value is outside its field: …; an index or set price neither 0 nor a price"; 02-1: "Any other length is refused by 5";
 -- 02-4: "A time above 59,999 is refused by 5"
 abbrev pub outside_field : Call → Bool
 outside_field c =
@@ -55,7 +55,7 @@ outside_field c =
     (on_trade trade_outside
     (on_minute_end (λ u. not (none_or_price u)) (on_fix (λ set. not (none_or_price set)) (on_day_length (λ l. not (is_length l)) false c) c) c) c) c) c
 
--- 11: 02-4, "one that runs back within its minute", where this is the latest time given in it
+-- 11: 02-4, a time "that runs back within its minute (all after the last minute end is one)", where this is the latest time given in it
 abbrev pub runs_back : ℕ → Call → Bool
 runs_back latest = on_timed_quote (λ q. ltb q.time latest) false
 
@@ -63,7 +63,7 @@ runs_back latest = on_timed_quote (λ q. ltb q.time latest) false
 abbrev pub crossed : Call → Bool
 crossed = on_quote (λ m. not (uncrossed m)) false
 
--- 9: "At a fix, no rule gives a settlement price": the price that it finds is 0
+-- 9: "At a fix, no rule gives a settlement price": the price that it finds is 0. 02-4: "9 now means that all four rules gave none"
 abbrev pub unpriced : ℕ → Call → Bool
 unpriced price = on_fix (λ set. not (is_present price)) false
 

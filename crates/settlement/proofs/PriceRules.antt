@@ -23,4 +23,4 @@ price_rules = record {
 
 pub midpoint_rule : MidpointRule
 unfolding nearest
-midpoint_rule = record { after_trades = refl; before_index = refl; one_millisecond = refl; no_time = refl; midpoint_tie_up = refl; midpoint_tie_down = refl }
+midpoint_rule = record { after_set_price = refl; after_trades = refl; before_index = refl; one_millisecond = refl; midpoint_tie_up = refl; midpoint_tie_down = refl }

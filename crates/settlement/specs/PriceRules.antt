@@ -14,8 +14,8 @@ before price index = record { price = price; index = index }
 -- 01: "the set price if given; else, when n > 0, half-even of gross / n; else day's index + previous price − previous index, when all three are nonzero and the
 -- result is a price"
 pub record PriceRules : Type 0 where
-  pub set_price : settlement_price 30000 (traded 2 40010) (quoted 2 60002) 6000 (before 7000 5500) ≡ 30000
-  pub average : settlement_price 0 (traded 2 40010) (quoted 2 60002) 6000 (before 7000 5500) ≡ 20005
+  pub set_price : settlement_price 30000 (traded 2 40010) (quoted 0 0) 6000 (before 7000 5500) ≡ 30000
+  pub average : settlement_price 0 (traded 2 40010) (quoted 0 0) 6000 (before 7000 5500) ≡ 20005
   pub tie_up : settlement_price 0 (traded 2 40011) (quoted 0 0) 6000 (before 7000 5500) ≡ 20006
   pub tie_down : settlement_price 0 (traded 2 40013) (quoted 0 0) 6000 (before 7000 5500) ≡ 20006
   pub by_index : settlement_price 0 (traded 0 0) (quoted 0 0) 6000 (before 7000 5500) ≡ 7500
@@ -30,9 +30,9 @@ pub record PriceRules : Type 0 where
 
 -- 02-4: "The sum over the total, half-even, is the settlement price if the total is at least 1. … This step stands after trades and before the index step"
 pub record MidpointRule : Type 0 where
+  pub after_set_price : settlement_price 40000 (traded 0 0) (quoted 2 60002) 6000 (before 7000 5500) ≡ 40000
   pub after_trades : settlement_price 0 (traded 2 40010) (quoted 2 60002) 6000 (before 7000 5500) ≡ 20005
   pub before_index : settlement_price 0 (traded 0 0) (quoted 2 60002) 6000 (before 7000 5500) ≡ 30001
   pub one_millisecond : settlement_price 0 (traded 0 0) (quoted 1 30001) 6000 (before 7000 5500) ≡ 30001
-  pub no_time : settlement_price 0 (traded 0 0) (quoted 0 0) 6000 (before 7000 5500) ≡ 7500
   pub midpoint_tie_up : settlement_price 0 (traded 0 0) (quoted 2 60003) 6000 (before 7000 5500) ≡ 30002
   pub midpoint_tie_down : settlement_price 0 (traded 0 0) (quoted 2 60005) 6000 (before 7000 5500) ≡ 30002
