@@ -61,22 +61,6 @@ fn wrong_numbers() {
         ("length 65536", "length of day is \"65536\"", TWO_BYTES),
         ("length -", "length of day is \"-\"", TWO_BYTES),
         ("quote 200100 x", "offer is \"x\"", NUMBER_OR_NONE),
-        ("quote 1 after 5", "offer is \"after\"", NUMBER_OR_NONE),
-        (
-            "quote 1 2 after 65,536",
-            "time in milliseconds is \"65,536\"",
-            TWO_BYTES,
-        ),
-        (
-            "quote 1 2 after -",
-            "time in milliseconds is \"-\"",
-            TWO_BYTES,
-        ),
-        (
-            "quote 1 2 after times 2",
-            "time in milliseconds is \"times\"",
-            TWO_BYTES,
-        ),
         ("quote 2001,00 0", "bid is \"2001,00\"", NUMBER_OR_NONE),
         (
             "minute 4294967296",
@@ -103,6 +87,19 @@ fn wrong_numbers() {
         ),
     ] {
         check(line, &format!("the {found}; {expected}"));
+    }
+}
+
+#[test]
+fn wrong_times() {
+    check(
+        "quote 1 after 5",
+        &format!("the offer is \"after\"; {NUMBER_OR_NONE}"),
+    );
+    for time in ["65,536", "-", "times 2"] {
+        let word = time.split(' ').next().expect("a word");
+        let found = format!("the time in milliseconds is \"{word}\"; {TWO_BYTES}");
+        check(&format!("quote 1 2 after {time}"), &found);
     }
 }
 

@@ -101,7 +101,8 @@ pub struct DateBegunBy(pub fn(&Record) -> bool);
 impl RefusalRules for DateBegunBy {
     fn length_of_day_is_late(&self, history: &History) -> bool {
         let mut not_accepted = history.open_day().not_accepted.iter();
-        RightLedger.length_of_day_is_late(history) || not_accepted.any(|not| self.0(&not.record))
+        RightLedger.length_of_day_is_late(history)
+            || not_accepted.any(|refused| self.0(&refused.record))
     }
 }
 

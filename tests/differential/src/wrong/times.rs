@@ -66,8 +66,8 @@ impl MidpointRules for RefusedQuoteGivesTime {
         let in_minute = day
             .not_accepted
             .iter()
-            .filter(|not| (start..=place).contains(&not.place));
-        let times = in_minute.filter_map(|not| match not.record {
+            .filter(|refused| (start..=place).contains(&refused.place));
+        let times = in_minute.filter_map(|refused| match refused.record {
             Record::Call(call) => call.time().filter(|time| *time <= LATEST_TIME),
             _ => None,
         });
