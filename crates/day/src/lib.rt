@@ -16,12 +16,12 @@ pub const MOST_AMOUNT: u64 = 10_000;
 // What minute ends set.
 #[derive(Clone, Copy, Default)]
 pub struct Minutes {
-    // valid count k, and weighted sum S
-    pub valid: u32,
     // ended minutes
     pub ended: u32,
     // the u of the last minute
     pub index: u32,
+    // valid count k, and weighted sum S
+    pub valid: u32,
     pub weighted: i64,
 }
 
@@ -51,29 +51,29 @@ pub struct Fixed {
 // What the first call of a date sets.
 #[derive(Clone, Copy)]
 pub struct Session {
-    // the minutes of the day
-    pub length: u32,
     // whether the date has accepted a quote, trade, halt, resume, minute end or length of day
     pub begun: bool,
+    // the minutes of the day
+    pub length: u32,
 }
 
 // The latest time, and the midpoints of the last minute so far.
 #[derive(Clone, Copy, Default)]
 pub struct Timing {
+    pub midpoints: Midpoints,
     // given in the minute, in milliseconds
     pub latest: u32,
-    pub midpoints: Midpoints,
 }
 
 // The day's figures, which a close empties. A price, an index or a side is 0 for none and no Option, as a market's sides are.
 #[derive(Clone, Copy)]
 pub struct Day {
-    pub markets: Markets,
-    pub session: Session,
     pub trades: Trades,
     pub minutes: Minutes,
-    pub fixed: Fixed,
     pub timing: Timing,
+    pub session: Session,
+    pub fixed: Fixed,
+    pub markets: Markets,
 }
 
 impl Markets {

@@ -19,11 +19,11 @@ pub mod product;
 // runs (`benchmarks/field-orders`).
 #[derive(Clone, Copy)]
 pub struct Figures {
+    pub previous: Previous,
     // closed days
     pub closed: u32,
-    pub size: u32,
-    pub previous: Previous,
     pub day: Day,
+    pub size: u32,
     pub halted: bool,
 }
 
