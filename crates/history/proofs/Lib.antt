@@ -6,3 +6,4 @@ pub mod Accepted
 pub mod Days
 pub mod Totals
 pub mod Demand3
+pub mod MarketTimes

@@ -1,4 +1,5 @@
 pub mod History
 pub mod LastMinute
+pub mod MarketTimes
 pub mod Cash
 pub mod Demand3
