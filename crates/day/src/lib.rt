@@ -18,27 +18,27 @@ pub const MOST_AMOUNT: u64 = 10_000;
 pub struct Minutes {
     // ended minutes
     pub ended: u32,
-    // the u of the last minute
-    pub index: u32,
     // valid count k, and weighted sum S
     pub valid: u32,
+    // the u of the last minute
+    pub index: u32,
     pub weighted: i64,
 }
 
 // What quotes and halts set: the standing market and the minute's market.
 #[derive(Clone, Copy, Default)]
 pub struct Markets {
-    pub standing: Market,
     pub minute: Market,
+    pub standing: Market,
 }
 
 // What trades set.
 #[derive(Clone, Copy, Default)]
 pub struct Trades {
-    // the last trade
-    pub last: u32,
     // n and gross
     pub settling: FinalMinute,
+    // the last trade
+    pub last: u32,
 }
 
 // What a fix sets. A price of 0 means that the day isn't fixed, as `Day` says.

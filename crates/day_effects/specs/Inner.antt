@@ -1,11 +1,12 @@
--- What the functions of this crate require, which figures within their limits have. A reader of the promises can skip this file.
-use mathlib.Core.{Path.◌≡◌, Bool.Bool, Bool.true}
+-- What the functions of this crate require, which figures within their limits have, and what they promise each other. A reader of the promises can skip this file.
+use mathlib.Core.{Path.◌≡◌, Bool.Bool, Bool.true, Bool.cond}
 use Rattle.std.specs.Prelude.{ℕ, ◌+◌, ◌-◌, ◌*◌, ◌<◌, ◌≤◌, ◌^◌}
 use Rattle.funding.specs.Minute.{basis_of, most_minutes, Accrues}
 use Rattle.funding.specs.Market.{midpoint}
 use Rattle.settlement.specs.declared.FinalMinute.{FinalMinute}
 use Rattle.calls.specs.{declared.Trade.Trade, Time.minute_length}
-use Rattle.day.specs.{declared.Day.Day, Day.minute_of}
+use Rattle.day.specs.{declared.Day.Day, Day.day_length, Day.in_last_minute, Day.minute_of}
+use Rattle.day_effects.specs.Effects.{with_minutes, with_timing, stood_until}
 
 -- n and the gross have room for a trade
 pub record RoomForTrade (m : FinalMinute) (t : Trade) : Type 0 where
@@ -25,3 +26,9 @@ pub record Endable (d : Day) (valid : Bool) (u : ℕ) : Type 0 where
   pub present : valid ≡ true → 0 < u
   pub time : RoomForTime d minute_length
   pub accrues : valid ≡ true → Accrues d.minutes.weighted d.minutes.valid (basis_of (minute_of d.markets.minute d.trades.last u).F u)
+
+-- a day as a minute ends, but for k, S, the ended minutes and the markets: its index and its midpoints change with the last minute alone
+abbrev pub at_minute_end : Day → ℕ → Day
+at_minute_end d u =
+    with_timing (with_minutes d (record { ended = d.minutes.ended; valid = d.minutes.valid; weighted = d.minutes.weighted; index = cond (in_last_minute (day_length d) d.minutes.ended) u d.minutes.index }))
+    (record { latest = d.timing.latest; midpoints = stood_until d minute_length })

@@ -1,12 +1,13 @@
 // What quotes, timed or not, halts, trades, minute ends and a fix leave of a day.
 #![tactic(auto)]
 
-ghost use Rattle.std.specs.Prelude.{◌≡◌, cond};
+ghost use Rattle.std.specs.Prelude.{◌≡◌, ◌-◌};
 ghost use Rattle.day.specs.Day.{no_markets, with_market};
 ghost use Rattle.day_effects.specs.Effects.{with_markets, with_minutes, with_trades, with_fixed, with_timing, stood_until, timing_after_quote, timing_after_minute, weighted_after, minute_ended, next_minute};
 ghost use Rattle.day_effects.specs.Effects.{quoted as Effects·quoted};
 ghost use Rattle.day_effects.specs.Effects.{traded as Effects·traded};
-ghost use Rattle.day_effects.specs.Inner.{RoomForTrade, RoomForTime, Endable};
+ghost use Rattle.calls.specs.Time.{minute_length};
+ghost use Rattle.day_effects.specs.Inner.{RoomForTrade, RoomForTime, Endable, at_minute_end};
 
 use calls::{Kind, MINUTE_LENGTH, TimedQuote, Trade};
 use day::{Day, Fixed, Markets, Timing};
@@ -37,21 +38,29 @@ pub fn quoted(mut day: Day, market: Market) -> Day
     day
 }
 
-// The midpoints where the standing market has stood up to this time of the minute.
-fn stood_until(day: Day, time: u32) -> Midpoints
+// The midpoints with that of the standing market, which has stood up to this time of the last minute.
+fn weighed(day: Day, time: u32) -> Midpoints
     requires { RoomForTime day time }
-    ensures { result ≡ stood_until day time }
+    ensures { result ≡ with_market day.timing.midpoints day.markets.standing (time - day.timing.latest) }
 {
     let mut midpoints = day.timing.midpoints;
-    if !day.is_in_last_minute() {
-        return midpoints;
-    }
     if day.markets.standing.is_two_sided() {
         let milliseconds = time - day.timing.latest;
         midpoints.total += milliseconds;
         midpoints.sum += u64::from(day.markets.standing.midpoint()) * u64::from(milliseconds);
     }
     midpoints
+}
+
+// The midpoints at this time of the minute, the last one or not.
+fn stood_until(day: Day, time: u32) -> Midpoints
+    requires { RoomForTime day time }
+    ensures { result ≡ stood_until day time }
+{
+    if !day.is_in_last_minute() {
+        return day.timing.midpoints;
+    }
+    weighed(day, time)
 }
 
 // A time that is no earlier than the latest, and room for it, are required.
@@ -106,32 +115,31 @@ fn weighted_after(day: Day, valid: bool, index: u32) -> i64
     }
 }
 
-// The day's index after a minute, the last one or not.
-fn index_after(before: u32, last: bool, index: u32) -> u32
-    ensures { result ≡ cond last index before }
+// The day at the end of a minute: of the last one, this is the day's index, and the standing market stood up to its end.
+fn at_minute_end(mut day: Day, index: u32) -> Day
+    requires { RoomForTime day minute_length }
+    ensures { result ≡ at_minute_end day index }
 {
-    if last { index } else { before }
+    let last = day.is_in_last_minute();
+    if last {
+        day.minutes.index = index;
+        day.timing.midpoints = weighed(day, MINUTE_LENGTH);
+    }
+    day
 }
 
-pub fn minute_ended(mut day: Day, valid: bool, index: u32) -> Day
+pub fn minute_ended(day: Day, valid: bool, index: u32) -> Day
     requires { Endable day valid index }
     ensures { result
         ≡ with_timing (with_minutes (with_markets day (next_minute day.markets)) (minute_ended day valid index)) (timing_after_minute day) }
 {
-    let markets = next_minute(day.markets);
-    let timing = Timing {
-        latest: 0,
-        midpoints: stood_until(day, MINUTE_LENGTH),
-    };
-    let mut minutes = day.minutes;
-    minutes.index = index_after(day.minutes.index, day.is_in_last_minute(), index);
-    minutes.weighted = weighted_after(day, valid, index);
-    minutes.valid = day.minutes.valid + u32::from(valid);
-    minutes.ended = day.minutes.ended + 1;
-    day.markets = markets;
-    day.minutes = minutes;
-    day.timing = timing;
-    day
+    let mut after = at_minute_end(day, index);
+    after.timing.latest = 0;
+    after.minutes.weighted = weighted_after(day, valid, index);
+    after.minutes.valid = day.minutes.valid + u32::from(valid);
+    after.minutes.ended = day.minutes.ended + 1;
+    after.markets = next_minute(day.markets);
+    after
 }
 
 pub fn fixed(mut day: Day, fixed: Fixed) -> Day

@@ -19,11 +19,11 @@ pub mod product;
 // runs (`benchmarks/field-orders`).
 #[derive(Clone, Copy)]
 pub struct Figures {
-    pub previous: Previous,
+    pub size: u32,
     // closed days
     pub closed: u32,
     pub day: Day,
-    pub size: u32,
+    pub previous: Previous,
     pub halted: bool,
 }
 

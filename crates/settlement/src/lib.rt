@@ -28,8 +28,8 @@ pub struct FinalMinute {
 // midpoint × milliseconds added up, its sum.
 #[derive(Clone, Copy, Default)]
 pub struct Midpoints {
-    pub sum: u64,
     pub total: u32,
+    pub sum: u64,
 }
 
 // The settlement price and the index of the closed day before, 0 without one.
