@@ -16,7 +16,7 @@ const ROUNDS: Duration = Duration::from_millis(700);
 /// hundredths, so that the best of several counts.
 const PROCESSES: usize = 6;
 /// The bytes of a book: its figures, and for each account four columns of eight bytes and one of four.
-const BOOK: usize = 128 + ACCOUNTS * (4 * 8 + 4);
+const BOOK: usize = 136 + ACCOUNTS * (4 * 8 + 4);
 /// The trades of one run of trade-bench.
 const TRADES: u32 = 1_000_000;
 
