@@ -16,8 +16,9 @@ pub mod tag {
     pub const CLOSE: u8 = 7;
     pub const LENGTH_OF_DAY: u8 = 8;
     pub const TIMED_QUOTE: u8 = 9;
+    pub const TWO_BYTE_TRADE: u8 = 10;
 
-    pub const KNOWN: [u8; 9] = [
+    pub const KNOWN: [u8; 10] = [
         TRADE,
         QUOTE,
         MINUTE_END,
@@ -27,6 +28,7 @@ pub mod tag {
         CLOSE,
         LENGTH_OF_DAY,
         TIMED_QUOTE,
+        TWO_BYTE_TRADE,
     ];
 }
 
@@ -47,6 +49,8 @@ pub mod length {
     pub const LENGTH_OF_DAY: u8 = 2;
     /// Milliseconds 2, bid 4, offer 4.
     pub const TIMED_QUOTE: u8 = 10;
+    /// Buyer 2, seller 2, kind 1, quantity 4, price 4.
+    pub const TWO_BYTE_TRADE: u8 = 13;
 }
 
 /// "Kind 0 simple, 1 spread against spread, 2 block."
@@ -77,6 +81,7 @@ pub fn body_length(tag: u8) -> Option<usize> {
         tag::CLOSE => length::CLOSE,
         tag::LENGTH_OF_DAY => length::LENGTH_OF_DAY,
         tag::TIMED_QUOTE => length::TIMED_QUOTE,
+        tag::TWO_BYTE_TRADE => length::TWO_BYTE_TRADE,
         _ => return None,
     };
     Some(length.into())
@@ -106,6 +111,7 @@ mod tests {
             (7, 0),
             (8, 2),
             (9, 10),
+            (10, 13),
         ];
         assert_eq!(tag::KNOWN, lengths.map(|(tag, _)| tag));
         for tag in 0..=u8::MAX {

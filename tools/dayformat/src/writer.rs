@@ -22,12 +22,28 @@ impl Writer {
         self
     }
 
-    /// The accounts are buyer and seller.
+    /// A trade whose accounts, buyer and seller, are one byte each.
     pub fn trade(&mut self, accounts: (u8, u8), kind: u8, quantity: u32, price: u32) -> &mut Self {
         let mut body = vec![accounts.0, accounts.1, kind];
         body.extend(quantity.to_be_bytes());
         body.extend(price.to_be_bytes());
         self.record(tag::TRADE, &body)
+    }
+
+    /// A trade whose accounts, buyer and seller, are two bytes each.
+    pub fn two_byte_trade(
+        &mut self,
+        accounts: (u16, u16),
+        kind: u8,
+        quantity: u32,
+        price: u32,
+    ) -> &mut Self {
+        let mut body = accounts.0.to_be_bytes().to_vec();
+        body.extend(accounts.1.to_be_bytes());
+        body.push(kind);
+        body.extend(quantity.to_be_bytes());
+        body.extend(price.to_be_bytes());
+        self.record(tag::TWO_BYTE_TRADE, &body)
     }
 
     pub fn quote(&mut self, bid: u32, offer: u32) -> &mut Self {
@@ -83,6 +99,7 @@ mod tests {
         file.minute_ends(1, 200_000).halt().resume().fix(0).close();
         file.length_of_day(1_140);
         file.timed_quote(30_000, 200_100, 200_300);
+        file.two_byte_trade((3, 1_023), 0, 12, 200_200);
         let (mut rest, mut tags) = (&file.bytes[..], Vec::new());
         while let Some((tag, length, after)) = header(rest) {
             assert_eq!(body_length(tag), Some(length));
