@@ -18,15 +18,22 @@ two_bytes file at = byte_at file at * 256 + byte_at file (at + 1)
 abbrev pub four_bytes : List ℕ → ℕ → ℕ
 four_bytes file at = two_bytes file at * 65536 + two_bytes file (at + 2)
 
--- the trade, the quotes and the call whose body starts at a place
-abbrev pub trade_at : List ℕ → ℕ → Trade
-trade_at file body = record {
-  buyer = byte_at file body;
-  seller = byte_at file (body + 1);
-  kind = kind_of (byte_at file (body + 2));
-  quantity = four_bytes file (body + 3);
-  price = four_bytes file (body + 7);
+-- the trade between two accounts whose kind, quantity and price start at a place
+abbrev pub trade_between : List ℕ → ℕ → ℕ → ℕ → Trade
+trade_between file buyer seller at = record {
+  buyer = buyer;
+  seller = seller;
+  kind = kind_of (byte_at file at);
+  quantity = four_bytes file (at + 1);
+  price = four_bytes file (at + 5);
 }
+
+-- the trades, the quotes and the call whose body starts at a place
+abbrev pub trade_at : List ℕ → ℕ → Trade
+trade_at file body = trade_between file (byte_at file body) (byte_at file (body + 1)) (body + 2)
+
+abbrev pub two_byte_trade_at : List ℕ → ℕ → Trade
+two_byte_trade_at file body = trade_between file (two_bytes file body) (two_bytes file (body + 2)) (body + 4)
 
 abbrev pub quote_at : List ℕ → ℕ → Market
 quote_at file body = record { bid = four_bytes file body; offer = four_bytes file (body + 4) }
@@ -44,3 +51,4 @@ call_of file tag.Fix body = call.Fix (four_bytes file body)
 call_of file tag.Close body = call.Close
 call_of file tag.DayLength body = call.DayLength (two_bytes file body)
 call_of file tag.TimedQuote body = call.TimedQuote (timed_quote_at file body)
+call_of file tag.TwoByteTrade body = call.Trade (two_byte_trade_at file body)

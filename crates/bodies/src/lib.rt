@@ -3,7 +3,7 @@
 
 ghost use Rattle.std.specs.Prelude.{◌≡◌, ◌+◌, ◌≤◌, length};
 ghost use Rattle.tags.specs.Tags.{body_length};
-ghost use Rattle.bodies.specs.Body.{two_bytes, four_bytes, trade_at, quote_at, timed_quote_at, call_of};
+ghost use Rattle.bodies.specs.Body.{two_bytes, four_bytes, trade_between, trade_at, two_byte_trade_at, quote_at, timed_quote_at, call_of};
 
 use calls::{Call, Kind, TimedQuote, Trade};
 use funding::market::Market;
@@ -27,17 +27,36 @@ pub fn four_bytes(file: &[u8], at: usize) -> u32
     u32::from_be_bytes([file[at], file[at + 1], file[at + 2], file[at + 3]])
 }
 
+// The trade between two accounts whose kind, quantity and price start at a place.
+fn trade_between(file: &[u8], buyer: u16, seller: u16, at: usize) -> Trade
+    requires { at + 9 ≤ length file.now }
+    ensures { result ≡ trade_between file.now buyer seller at }
+{
+    Trade {
+        buyer,
+        seller,
+        kind: Kind::from(file[at]),
+        quantity: four_bytes(file, at + 1),
+        price: four_bytes(file, at + 5),
+    }
+}
+
 pub fn trade_at(file: &[u8], body: usize) -> Trade
     requires { body + 11 ≤ length file.now }
     ensures { result ≡ trade_at file.now body }
 {
-    Trade {
-        buyer: file[body],
-        seller: file[body + 1],
-        kind: Kind::from(file[body + 2]),
-        quantity: four_bytes(file, body + 3),
-        price: four_bytes(file, body + 7),
-    }
+    let buyer = u16::from(file[body]);
+    let seller = u16::from(file[body + 1]);
+    trade_between(file, buyer, seller, body + 2)
+}
+
+pub fn two_byte_trade_at(file: &[u8], body: usize) -> Trade
+    requires { body + 13 ≤ length file.now }
+    ensures { result ≡ two_byte_trade_at file.now body }
+{
+    let buyer = two_bytes(file, body);
+    let seller = two_bytes(file, body + 2);
+    trade_between(file, buyer, seller, body + 4)
 }
 
 fn quote_at(file: &[u8], body: usize) -> Market
@@ -75,5 +94,6 @@ pub fn call_of(file: &[u8], tag: Tag, body: usize) -> Call
         Tag::Close => Call::Close,
         Tag::DayLength => Call::DayLength(u32::from(two_bytes(file, body))),
         Tag::TimedQuote => Call::TimedQuote(timed_quote_at(file, body)),
+        Tag::TwoByteTrade => Call::Trade(two_byte_trade_at(file, body)),
     }
 }

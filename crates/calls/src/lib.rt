@@ -48,8 +48,8 @@ impl From<u8> for Kind {
 // A trade.
 #[derive(Clone, Copy)]
 pub struct Trade {
-    pub buyer: u8,
-    pub seller: u8,
+    pub buyer: u16,
+    pub seller: u16,
     pub kind: Kind,
     pub quantity: u32,
     pub price: u32,

@@ -4,9 +4,9 @@ use Rattle.std.specs.Prelude.{ℕ, zero, suc, ◌+◌}
 use lib.{IntN.ℤ, IntN.pos, IntN.◌+ℤ◌, ListN.get_or, ListN.set, ListN.replicate}
 use Rattle.columns.specs.declared.{Account.Account, Columns.Columns}
 
--- 01: "Accounts are 0 to 255"
+-- 02-5: "Accounts become two-byte numbers, 0 to 1,023"
 abbrev pub accounts : ℕ
-accounts = 256
+accounts = 1024
 
 -- account j's entry of a column of signed numbers, and of one of counts
 abbrev pub entry : List ℤ → ℕ → ℤ

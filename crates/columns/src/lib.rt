@@ -10,8 +10,8 @@ ghost use Rattle.columns.specs.Limits.{most_position, account_holds, holds_at};
 use integers::is_within;
 use prices::LARGEST_PRICE;
 
-// Accounts are 0 to 255, one byte.
-pub const ACCOUNTS: usize = 256;
+// Accounts are 0 to 1,023.
+pub const ACCOUNTS: usize = 1_024;
 
 pub const MOST_VOLUME: u32 = 2_000_000;
 

@@ -1,4 +1,4 @@
--- What a trade does to the account columns, and 7 and 8: document 01, "A trade date, call by call".
+-- What a trade does to the account columns, and 12, 7 and 8: document 01, "A trade date, call by call".
 use mathlib.Core.{Bool.Bool, Bool.not, Bool.◌&&◌, List.List}
 use Rattle.std.specs.Prelude.{ℕ}
 use lib.{Dec.leb, Dec.ltb, IntN.ℤ, IntN.pos, IntN.neg_ℤ}
@@ -24,10 +24,14 @@ abbrev pub position_stays : List ℤ → Trade → Bool
 position_stays position t =
     within (entry (exchanged position t t.quantity) t.buyer) most_position && within (entry (exchanged position t t.quantity) t.seller) most_position
 
--- what n accounts with these positions and v say of a trade: both have to be among the n
+-- whether both accounts of a trade are among n. 12: 02-5, "An account above 1,023"
+abbrev pub are_accounts : ℕ → Trade → Bool
+are_accounts n t = ltb t.buyer n && ltb t.seller n
+
+-- what n accounts with these positions and v say of a trade
 abbrev pub accounts_of : ℕ → List ℤ → List ℕ → Trade → Accounts
 accounts_of n position volume t = record {
-  missing = not (ltb t.buyer n && ltb t.seller n);
+  missing = not (are_accounts n t);
   volume = not (volume_stays volume t);
   position = not (position_stays position t);
 }

@@ -2,14 +2,14 @@
 ghost use Rattle.std.specs.Prelude.{◌≡◌, ◌≤◌};
 ghost use Rattle.calls.specs.Trade.{most_quantity};
 ghost use Rattle.counterparties.specs.Counterparties.{exchanged, counted};
-ghost use Rattle.counterparties.specs.Inner.{most_entry, most_moved, Exchangeable, Countable};
+ghost use Rattle.counterparties.specs.Inner.{most_entry, most_moved, Present, Exchangeable, Countable};
 
 use calls::Trade;
 use columns::ACCOUNTS;
 
 // Moves an amount from the seller's entry to the buyer's. The seller's is read after the buyer's is written.
 pub fn exchange(column: &mut [i64; ACCOUNTS], t: Trade, amount: u64)
-    requires { Exchangeable column.old t most_entry × (amount ≤ most_moved) }
+    requires { Present t × Exchangeable column.old t most_entry × (amount ≤ most_moved) }
     ensures { column.new ≡ exchanged column.old t amount }
 {
     let i = usize::from(t.buyer);
@@ -22,7 +22,7 @@ pub fn exchange(column: &mut [i64; ACCOUNTS], t: Trade, amount: u64)
 
 // Raises the v of both accounts. It is no `exchange` of another type: both entries rise.
 pub fn count(volume: &mut [u32; ACCOUNTS], t: Trade)
-    requires { Countable volume.old t × (t.quantity ≤ most_quantity) }
+    requires { Present t × Countable volume.old t × (t.quantity ≤ most_quantity) }
     ensures { volume.new ≡ counted volume.old t }
 {
     let i = usize::from(t.buyer);

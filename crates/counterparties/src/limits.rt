@@ -1,11 +1,19 @@
-// Refusals 7 and 8: whether the accounts of a trade stay within their limits.
+// Refusals 12, 7 and 8: whether the accounts of a trade are there, and stay within their limits.
 ghost use Rattle.std.specs.Prelude.{◌≡◌, cond, ◌+◌, eqb};
 ghost use Rattle.columns.specs.Limits.{most_position};
-ghost use Rattle.counterparties.specs.Counterparties.{volume_stays, position_stays};
-ghost use Rattle.counterparties.specs.Inner.{Exchangeable, Countable};
+ghost use Rattle.columns.specs.Columns.{accounts};
+ghost use Rattle.counterparties.specs.Counterparties.{are_accounts, volume_stays, position_stays};
+ghost use Rattle.counterparties.specs.Inner.{Present, Exchangeable, Countable};
 
 use calls::Trade;
 use columns::{ACCOUNTS, MOST_POSITION, MOST_VOLUME};
+
+// Whether both accounts of a trade are there.
+pub fn are_accounts(t: Trade) -> bool
+    ensures { result ≡ are_accounts accounts t }
+{
+    (usize::from(t.buyer) < ACCOUNTS) & (usize::from(t.seller) < ACCOUNTS)
+}
 
 // What the v of each account of a trade rises by: both sides where they are one account.
 fn counts(t: Trade) -> u64
@@ -24,7 +32,7 @@ fn moves(t: Trade) -> u32
 
 // Whether the v of both accounts stays within its limit.
 pub fn volume_stays(volume: &[u32; ACCOUNTS], t: Trade) -> bool
-    requires { Countable volume.now t }
+    requires { Present t × Countable volume.now t }
     ensures { result ≡ volume_stays volume.now t }
 {
     let i = usize::from(t.buyer);
@@ -38,7 +46,7 @@ pub fn volume_stays(volume: &[u32; ACCOUNTS], t: Trade) -> bool
 // Whether the positions of both accounts stay within their limit. Positions within it are required, so that the sums fit, and
 // so that a buyer's can pass it only above and a seller's only below.
 pub fn position_stays(position: &[i64; ACCOUNTS], t: Trade) -> bool
-    requires { Exchangeable position.now t most_position }
+    requires { Present t × Exchangeable position.now t most_position }
     ensures { result ≡ position_stays position.now t }
 {
     let i = usize::from(t.buyer);

@@ -7,7 +7,7 @@ use Rattle.integers.specs.Lists.{Every, sum}
 use Rattle.calls.specs.declared.Call.TheVariants as call
 use Rattle.calls.specs.declared.Trade.{Trade}
 use Rattle.calls.proofs.Calls.{on_trade_is}
-use Rattle.trading.proofs.Passed.{in_range}
+use Rattle.counterparties.proofs.Present.{in_range}
 use Rattle.history.specs.History.{History, closings, closed_part, trades}
 use Rattle.history.specs.Cash.{last_price, amount_on, of_account, signed, net, yield, paid, cash_of}
 use Rattle.history.proofs.Sums.{over_all, all_add, all_account, scaled_cancels, sum_cancels}

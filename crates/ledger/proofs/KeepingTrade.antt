@@ -24,8 +24,8 @@ use Rattle.columns.specs.Columns.{entry, count_at, raise, raise_count, sum_below
 use Rattle.columns.specs.Limits.{most_position, most_volume}
 use Rattle.columns.proofs.Accounts.{sum_raised}
 use Rattle.counterparties.specs.Counterparties.{exchanged, counted}
+use Rattle.counterparties.proofs.Present.{in_range}
 use Rattle.counterparties.proofs.Raised.{cost_raised, untouched, of_each}
-use Rattle.trading.proofs.Passed.{in_range}
 use Rattle.ledger.specs.Effects.{traded_book}
 use Rattle.ledger.specs.Keeping.{Shaped}
 use Rattle.figures.specs.declared.Figures.{Figures}

@@ -4,26 +4,30 @@
 --     on_figures, trade-answered, close-answered  the answer to a call that touches no account, to a trade and to a close, from its parts;
 --                                                   the call is known by an equation, as in an arm of a `match`
 -- Assumes nothing.
-use mathlib.Core.Path.{◌≡◌, refl, sym, ◌∙◌, ap}
+use mathlib.Core.Path.{◌≡◌, refl, sym, ◌∙◌, ap, subst}
 use mathlib.Core.Bool.{Bool, true, false, cond}
-use Prim.Native.Nat.{ℕ, ◌*◌, ◌<◌, ◌≤◌}
+use mathlib.Core.List.{List}
+use mathlib.Core.Logic.{⊎_elim}
+use Prim.Native.Nat.{ℕ, ◌+◌, ◌*◌, ◌^◌, ◌<◌, ◌≤◌}
 use native.Mathlib.Omega.{arith}
 use lib.Dec.{eqb}
-use lib.IntN.{nat_abs}
-use lib.ListN.{length}
-use mir.Syntax.{w8}
-use mir.Val.{Fits}
+use lib.IntN.{pos, nat_abs}
+use lib.ListN.{length, get_or}
+use Rattle.std.proofs.lemmas.Bool.{cases_lt}
+use Rattle.std.proofs.lemmas.List.{get_or_past}
 use Rattle.prices.specs.Price.{largest_price}
 use Rattle.calls.specs.declared.Call.TheVariants as call
 use Rattle.calls.specs.declared.Trade.{Trade}
+use Rattle.calls.specs.Trade.{most_quantity}
 use Rattle.calls.specs.declared.Call.{Call}
 use Rattle.outcomes.specs.Effects.{figures_after}
 use Rattle.refusals.specs.Refusals.{first_met}
 use Rattle.outcomes.specs.Outcome.{figures_refusal, outcome, outcome_by}
 use Rattle.figures.specs.Fixing.{Fixable}
 use Rattle.figures.proofs.Held.{figures_hold-held, size_most}
-use Rattle.columns.specs.Columns.{accounts, entry}
-use Rattle.columns.specs.Limits.{most_volume}
+use Rattle.columns.specs.Columns.{accounts, count_at, entry}
+use Rattle.columns.specs.Limits.{most_position, most_volume}
+use Rattle.counterparties.specs.Inner.{most_entry}
 use Rattle.closing.specs.Closing.{closed_columns}
 use Rattle.closing.specs.Inner.{Closable, CloseAnswered}
 use Rattle.trading.specs.Trading.{trade_refusal, traded_columns}
@@ -41,6 +45,10 @@ use Rattle.std.specs.Prelude.{Option, Result}
 use Rattle.ledger.specs.declared.Book.{Book}
 use Rattle.ledger.proofs.Held.{Held, held, contracts_most}
 
+-- what holds of every entry of a list and of 0 holds at any place of it
+at_any : {A : Type 0} (l : List A) (j : ℕ) (zero : A) (P : A → Type 0) → P zero → (j < length l → P (get_or l j zero)) → P (get_or l j zero)
+at_any l j zero P past inside = ⊎_elim inside (λ h. subst P (sym (get_or_past l j zero h)) past) (cases_lt j (length l))
+
 abbrev Called : Type 0
 Called = Result (Option Fixing) Refusal
 
@@ -52,21 +60,27 @@ module _ (b : Book) (w : WithinLimits accounts b) where
   cost_most : (j : ℕ) → j < accounts → nat_abs (entry b.columns.cost j) ≤ most_volume * largest_price
   cost_most j h = let a = holds.account j h in omega (arith, a.cost, a.volume)
 
-  -- an account is a byte, so each is one of the book's
-  pub tradable : (t : Trade) → Fits w8 t.buyer → Fits w8 t.seller → Tradable b.figures b.columns t
-  tradable t buyer seller =
-      let x = holds.account t.buyer buyer.fits in
-      let y = holds.account t.seller seller.fits in
-      let p : length b.columns.position ≡ accounts = w.shaped.position in
-      let c : length b.columns.cost ≡ accounts = w.shaped.cost in
-      let v : length b.columns.volume ≡ accounts = w.shaped.volume in
+  -- an account that isn't there has nothing
+  pub tradable : (t : Trade) → Tradable b.figures b.columns t
+  tradable t =
       record {
-        positions = record { buyer_in = rw p buyer.fits; seller_in = rw p seller.fits; buyer = x.position; seller = y.position };
-        costs = record { buyer_in = rw c buyer.fits; seller_in = rw c seller.fits; buyer = omega (arith, cost_most t.buyer buyer.fits); seller = omega (arith, cost_most t.seller seller.fits) };
-        volumes = record { buyer_in = rw v buyer.fits; seller_in = rw v seller.fits; buyer = omega (arith, x.volume); seller = omega (arith, y.volume) };
+        positions = record { buyer = position t.buyer; seller = position t.seller };
+        costs = record { buyer = cost t.buyer; seller = cost t.seller };
+        volumes = record { buyer = volume t.buyer; seller = volume t.seller };
         contracts = omega (arith, contracts_most accounts b holds);
         gross = omega (arith, contracts_most accounts b holds, holds.final.gross.high);
       }
+    where
+      position : (j : ℕ) → nat_abs (entry b.columns.position j) ≤ most_position
+      position j =
+          at_any b.columns.position j (pos 0) (λ z. nat_abs z ≤ most_position) (omega arith) (λ h. (holds.account j (rw (← w.shaped.position) h)).position)
+
+      cost : (j : ℕ) → nat_abs (entry b.columns.cost j) ≤ most_entry
+      cost j = at_any b.columns.cost j (pos 0) (λ z. nat_abs z ≤ most_entry) (omega arith) (λ h. omega (arith, cost_most j (rw (← w.shaped.cost) h)))
+
+      volume : (j : ℕ) → count_at b.columns.volume j + (most_quantity + most_quantity) < 2 ^ 32
+      volume j =
+          at_any b.columns.volume j 0 (λ v. v + (most_quantity + most_quantity) < 2 ^ 32) (omega arith) (λ h. omega (arith, (holds.account j (rw (← w.shaped.volume) h)).volume))
 
   pub figures_held : figures_hold b.figures ≡ true
   figures_held = figures_hold-held b.figures holds.figures

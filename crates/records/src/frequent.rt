@@ -1,12 +1,12 @@
-// The records that most of a file is: timed quotes, minute ends and trades.
+// The records that most of a file is: timed quotes, minute ends and trades of both tags.
 ghost use Rattle.std.specs.Prelude.{◌≡◌, cond, ◌∷◌, [], ◌+◌, ◌≤◌, length};
 ghost use Rattle.tags.specs.declared.Tag.{Tag as Tag·Tag};
-ghost use Rattle.tags.specs.declared.Tag.TheVariants.{MinuteEnd, TimedQuote, Trade};
+ghost use Rattle.tags.specs.declared.Tag.TheVariants.{MinuteEnd, TimedQuote, Trade, TwoByteTrade};
 ghost use Rattle.tags.specs.Tags.{body_length};
 ghost use Rattle.bodies.specs.Body.{call_of};
 ghost use Rattle.records.specs.Run.{run_over};
 
-use bodies::{four_bytes, timed_quote_at, trade_at};
+use bodies::{four_bytes, timed_quote_at, trade_at, two_byte_trade_at};
 use ledger::checked::CheckedBook;
 use tags::Tag;
 
@@ -64,5 +64,19 @@ impl Frequent for Trades {
 
     fn play(book: &mut CheckedBook, file: &[u8], body: usize) -> bool {
         book.trade(trade_at(file, body)).is_ok()
+    }
+}
+
+pub struct TwoByteTrades;
+
+impl Frequent for TwoByteTrades {
+    ghost tag = { TwoByteTrade };
+
+    fn tag() -> Tag {
+        Tag::TwoByteTrade
+    }
+
+    fn play(book: &mut CheckedBook, file: &[u8], body: usize) -> bool {
+        book.trade(two_byte_trade_at(file, body)).is_ok()
     }
 }

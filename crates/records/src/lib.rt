@@ -7,7 +7,7 @@ ghost use Rattle.records.specs.Run.{run_over, Running};
 
 use calls::Call;
 use dayfile::{HEAD, RecordError, is_record_at, read_record};
-use frequent::{Frequent, MinuteEnds, TimedQuotes, Trades};
+use frequent::{Frequent, MinuteEnds, TimedQuotes, Trades, TwoByteTrades};
 use ledger::checked::CheckedBook;
 
 mod frequent;
@@ -37,7 +37,7 @@ fn play_all<F: Frequent>(book: &mut CheckedBook, file: &[u8], from: Progress) ->
     Progress { accepted, at }
 }
 
-// Plays the records of the three frequent kinds that follow one another from a place on, in any order.
+// Plays the records of the four frequent tags that follow one another from a place on, in any order.
 fn play_frequent(book: &mut CheckedBook, file: &[u8], from: Progress) -> Progress
     requires { (from.accepted ≤ from.at) × (from.at ≤ length file.now) }
     ensures { Running file.now book.old.book from.accepted from.at book.new.book result.accepted result.at }
@@ -47,10 +47,11 @@ fn play_frequent(book: &mut CheckedBook, file: &[u8], from: Progress) -> Progres
         let ends = play_all::<MinuteEnds>(book, file, progress);
         let quotes = play_all::<TimedQuotes>(book, file, ends);
         let trades = play_all::<Trades>(book, file, quotes);
-        if trades.at == progress.at {
-            return trades;
+        let all = play_all::<TwoByteTrades>(book, file, trades);
+        if all.at == progress.at {
+            return all;
         }
-        progress = trades;
+        progress = all;
     }
 }
 

@@ -45,10 +45,10 @@ pub record Passed (closed : ℕ) (forbidden halted : Bool) (latest found : ℕ) 
   pub full : is_full closed ≡ false
   pub day : forbidden ≡ false
   pub halt : halt_forbids halted c ≡ false
-  pub accounts : a.missing ≡ false
   pub field : outside_field c ≡ false
   pub time : runs_back latest c ≡ false
   pub market : crossed c ≡ false
+  pub accounts : a.missing ≡ false
   pub volume : a.volume ≡ false
   pub position : a.position ≡ false
   pub price : unpriced found c ≡ false
@@ -59,5 +59,4 @@ pub passed : (closed : ℕ) (forbidden halted : Bool) (latest price : ℕ) (c : 
 passed closed forbidden halted latest price c a h =
     let u = unmet (sentences closed forbidden halted latest price c a) refl h in
     let days = or_parts (is_full closed) forbidden (u 0) in
-    let fields = or_parts a.missing (outside_field c) (u 2) in
-    record { full = days.0; day = days.1; halt = u 1; accounts = fields.0; field = fields.1; time = u 3; market = u 4; volume = u 5; position = u 6; price = u 7 }
+    record { full = days.0; day = days.1; halt = u 1; field = u 2; time = u 3; market = u 4; accounts = u 5; volume = u 6; position = u 7; price = u 8 }

@@ -1,11 +1,11 @@
--- Refusals 3 to 9 and 11, in checking order: a number comes if its sentence is met, and only then.
+-- Refusals 3 to 9, 11 and 12, in checking order: a number comes if its sentence is met, and only then.
 use mathlib.Core.{Path.◌≡◌, Bool.Bool, Bool.false, Bool.not, Bool.cond, Bool.◌&&◌, Bool.◌||◌, List.List, List.[], List.◌∷◌}
 use Rattle.std.specs.Prelude.{ℕ, leb, ltb, Result, Ok, Err}
 use Rattle.prices.specs.Price.{is_present, none_or_price, none_or_ticked}
 use Rattle.refusals.specs.declared.Refusal.{Refusal}
 use Rattle.refusals.specs.declared.Refusal.TheVariants as refusal
 use Rattle.funding.specs.{declared.market.Market.Market, Market.uncrossed}
-use Rattle.calls.specs.{declared.Call.Call, Calls.on_quote, Calls.on_trade, Calls.on_halt, Calls.on_resume, Calls.on_minute_end, Calls.on_fix, Calls.on_day_length, Calls.on_timed_quote, Length.is_length, Time.most_time, Trade.trade_outside}
+use Rattle.calls.specs.{declared.Call.Call, declared.TimedQuote.TimedQuote, Calls.on_quote, Calls.on_trade, Calls.on_halt, Calls.on_resume, Calls.on_minute_end, Calls.on_fix, Calls.on_day_length, Calls.on_timed_quote, Length.is_length, Time.most_time, Trade.trade_outside}
 
 -- the number of each refusal in documents 01 and 02
 abbrev pub number : Refusal → ℕ
@@ -20,6 +20,7 @@ number refusal.Position = 8
 number refusal.Unpriced = 9
 number refusal.Lists = 10
 number refusal.Time = 11
+number refusal.Account = 12
 
 -- no two refusals have one number, so that a number says which one it is: proved in proofs/Numbers.antt
 abbrev pub OwnNumbers : Type 0
@@ -46,11 +47,14 @@ halt_forbids halted c = on_trade (λ t. halted) (on_quote (λ m. halted) (on_hal
 abbrev pub sides_outside : Market → Bool
 sides_outside m = not (none_or_ticked m.bid && none_or_ticked m.offer)
 
--- 5: "A value is outside its field: …; an index or set price neither 0 nor a price"; 02-1: "Any other length is refused by 5";
 -- 02-4: "A time above 59,999 is refused by 5"
+abbrev pub timed_quote_outside : TimedQuote → Bool
+timed_quote_outside q = ltb most_time q.time || sides_outside q.market
+
+-- 5: "A value is outside its field: …; an index or set price neither 0 nor a price"; 02-1: "Any other length is refused by 5"
 abbrev pub outside_field : Call → Bool
 outside_field c =
-    on_timed_quote (λ q. ltb most_time q.time || sides_outside q.market)
+    on_timed_quote timed_quote_outside
     (on_quote sides_outside
     (on_trade trade_outside
     (on_minute_end (λ u. not (none_or_price u)) (on_fix (λ set. not (none_or_price set)) (on_day_length (λ l. not (is_length l)) false c) c) c) c) c) c
@@ -67,7 +71,7 @@ crossed = on_quote (λ m. not (uncrossed m)) false
 abbrev pub unpriced : ℕ → Call → Bool
 unpriced price = on_fix (λ set. not (is_present price)) false
 
--- what the account columns say of a call: an account that isn't there, and sentences 7 and 8
+-- what the account columns say of a call: whether it names an account that isn't there, and sentences 7 and 8
 pub record Accounts : Type 0 where
   pub missing : Bool
   pub volume : Bool
@@ -77,15 +81,16 @@ abbrev pub no_accounts : Accounts
 no_accounts = record { missing = false; volume = false; position = false }
 
 -- The sentences in checking order, each with its number, by the closed days, whether the day doesn't allow the call, the halt,
--- the latest time given in the minute, the price that a fix finds, and the accounts. An account that isn't there is a value outside its
--- field. 02-4: 11 is "checked right after 5".
+-- the latest time given in the minute, the price that a fix finds, and the accounts. 02-4: 11 is "checked right after 5"; 02-5: "An
+-- account above 1,023 meets the new refusal 12, checked just before 7".
 abbrev pub sentences : ℕ → Bool → Bool → ℕ → ℕ → Call → Accounts → List (ℕ × Bool)
 sentences closed forbidden halted latest price c a =
     (3, is_full closed || forbidden)
     ∷ (4, halt_forbids halted c)
-    ∷ (5, a.missing || outside_field c)
+    ∷ (5, outside_field c)
     ∷ (11, runs_back latest c)
     ∷ (6, crossed c)
+    ∷ (12, a.missing)
     ∷ (7, a.volume)
     ∷ (8, a.position)
     ∷ (9, unpriced price c)

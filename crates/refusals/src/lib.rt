@@ -1,8 +1,8 @@
-// Which refusal a call meets, by its values and what the book says of it: refusals 3 to 9 and 11, where its accounts give none.
+// Which refusal a call meets, by its values and what the book says of it: refusals 3 to 9, 11 and 12, where its accounts give none.
 #![tactic(auto)]
 
 ghost use Rattle.std.specs.Prelude.{◌≡◌, false, cond, Ok, Err};
-ghost use Rattle.refusals.specs.Refusals.{is_full, number_of, sides_outside, refusal_by};
+ghost use Rattle.refusals.specs.Refusals.{is_full, number_of, sides_outside, timed_quote_outside, refusal_by};
 ghost use Rattle.refusals.specs.Refusals.{first_sentences as Refusals·first_sentences};
 ghost use Rattle.refusals.specs.Refusals.{number as Refusals·number};
 
@@ -26,6 +26,7 @@ pub enum Refusal {
     Unpriced,
     Lists,
     Time,
+    Account,
 }
 
 // Documents 01 and 02's number.
@@ -45,6 +46,7 @@ impl From<Refusal> for u8 {
             Refusal::Unpriced => 9,
             Refusal::Lists => 10,
             Refusal::Time => 11,
+            Refusal::Account => 12,
         }
     }
 }
@@ -87,6 +89,12 @@ fn sides_outside(market: Market) -> bool
     !(none_or_ticked(market.bid) & none_or_ticked(market.offer))
 }
 
+fn timed_quote_outside(quote: TimedQuote) -> bool
+    ensures { result ≡ timed_quote_outside quote }
+{
+    (MOST_TIME < quote.time) | sides_outside(quote.market)
+}
+
 pub fn quote(closed: u32, halted: bool, market: Market) -> Result<(), Refusal>
     ensures { number_of result ≡ refusal_by closed false halted 0 0 (Call.Quote market) }
 {
@@ -98,8 +106,7 @@ pub fn quote(closed: u32, halted: bool, market: Market) -> Result<(), Refusal>
 pub fn timed_quote(closed: u32, halted: bool, latest: u32, quote: TimedQuote) -> Result<(), Refusal>
     ensures { number_of result ≡ refusal_by closed false halted latest 0 (Call.TimedQuote quote) }
 {
-    let outside = (MOST_TIME < quote.time) | sides_outside(quote.market);
-    first_sentences(closed, false, halted, outside)?;
+    first_sentences(closed, false, halted, timed_quote_outside(quote))?;
     Refusal::Time.when(quote.time < latest)?;
     Refusal::Crossed.when(!quote.market.is_uncrossed())
 }

@@ -5,7 +5,7 @@ use Rattle.tags.specs.declared.Tag.TheVariants as tag
 
 -- 01: "Tag 1 trade: buyer 1 byte, seller 1, kind 1, quantity 4, price 4. Tag 2 quote: bid 4, offer 4. Tag 3 minute end: 4.
 -- Tag 4 halt, 5 resume, 7 close: 0 bytes. Tag 6 fix: 4. Other tags are unknown."; 02-1: "tag 8 with a two-byte length of day";
--- 02-4: "tag 9: milliseconds into the minute (two bytes, 0 to 59,999), bid, offer"
+-- 02-4: "tag 9: milliseconds into the minute (two bytes, 0 to 59,999), bid, offer"; 02-5: "Tag 10 is a trade with two-byte buyer and seller"
 abbrev pub byte_of : Tag → ℕ
 byte_of tag.Trade = 1
 byte_of tag.Quote = 2
@@ -16,6 +16,7 @@ byte_of tag.Fix = 6
 byte_of tag.Close = 7
 byte_of tag.DayLength = 8
 byte_of tag.TimedQuote = 9
+byte_of tag.TwoByteTrade = 10
 
 -- the tag whose byte this is, if it is a known one's
 unfoldable pub tag_of : ℕ → Option Tag
@@ -29,7 +30,8 @@ tag_of byte =
     (cond (eqb byte (byte_of tag.Close)) (Some tag.Close)
     (cond (eqb byte (byte_of tag.DayLength)) (Some tag.DayLength)
     (cond (eqb byte (byte_of tag.TimedQuote)) (Some tag.TimedQuote)
-    None))))))))
+    (cond (eqb byte (byte_of tag.TwoByteTrade)) (Some tag.TwoByteTrade)
+    None)))))))))
 
 -- the bytes of each tag's body, added up
 abbrev pub body_length : Tag → ℕ
@@ -42,3 +44,4 @@ body_length tag.Fix = 4
 body_length tag.Close = 0
 body_length tag.DayLength = 2
 body_length tag.TimedQuote = 10
+body_length tag.TwoByteTrade = 13

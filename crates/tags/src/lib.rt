@@ -17,6 +17,7 @@ pub enum Tag {
     Close,
     DayLength,
     TimedQuote,
+    TwoByteTrade,
 }
 
 // A byte that is no known tag's.
@@ -37,6 +38,7 @@ impl From<Tag> for u8 {
             Tag::Close => 7,
             Tag::DayLength => 8,
             Tag::TimedQuote => 9,
+            Tag::TwoByteTrade => 10,
         }
     }
 }
@@ -58,6 +60,7 @@ impl TryFrom<u8> for Tag {
             7 => Ok(Tag::Close),
             8 => Ok(Tag::DayLength),
             9 => Ok(Tag::TimedQuote),
+            10 => Ok(Tag::TwoByteTrade),
             _ => Err(UnknownTag(byte)),
         }
     }
@@ -78,6 +81,7 @@ impl Tag {
             Tag::Close => 0,
             Tag::DayLength => 2,
             Tag::TimedQuote => 10,
+            Tag::TwoByteTrade => 13,
         }
     }
 }

@@ -12,7 +12,7 @@ ghost use Rattle.trading.specs.Inner.{Tradable, TradeAnswered};
 use calls::Trade;
 use columns::Columns;
 use counterparties::effects::{count, exchange};
-use counterparties::limits::{position_stays, volume_stays};
+use counterparties::limits::{are_accounts, position_stays, volume_stays};
 use figures::{Figures, Outcome};
 use refusals::Refusal;
 
@@ -22,6 +22,7 @@ fn test(figures: &Figures, columns: &Columns, t: Trade) -> Result<(), Refusal>
     ensures { number_of result ≡ trade_refusal accounts figures.now columns.now t }
 {
     refusals::trade(figures.closed, figures.halted, t)?;
+    Refusal::Account.when(!are_accounts(t))?;
     Refusal::Volume.when(!volume_stays(&columns.volume, t))?;
     Refusal::Position.when(!position_stays(&columns.position, t))
 }

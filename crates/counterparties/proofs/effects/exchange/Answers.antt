@@ -22,4 +22,4 @@ module _ {l : List ℤ} {t : Trade} {amount : ℕ} (p : Exchangeable l t most_en
 pub returns : goal.returns
 returns c =
     let p = c.requires in
-    rw (c.from-i.ensures, c.from-j.ensures, runs (buying p.0 p.1) (add (arg 0) (arg 1)) tt, runs (selling p.0 p.1) (sub (arg 0) (arg 1)) tt)
+    rw (c.from-i.ensures, c.from-j.ensures, runs (buying p.1 p.2) (add (arg 0) (arg 1)) tt, runs (selling p.1 p.2) (sub (arg 0) (arg 1)) tt)

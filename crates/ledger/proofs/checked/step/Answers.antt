@@ -1,12 +1,11 @@
 -- A call on a book within its limits, call by call.
 use mathlib.Core.Path.{refl}
-use borrow.Author.Rules.{rules}
 use Rattle.ledger.specs.Effects.{effect}
 use Rattle.ledger.proofs.Lent.{tradable, figures_held, fixable, closable, on_figures, trade-answered, close-answered}
 use Rattle.ledger.proofs.checked.step.Goals as goal
 
 pub trade-requires : goal.trade-requires
-trade-requires c = tradable _ c.requires c.in-Trade.trade (search rules) (search rules)
+trade-requires c = tradable _ c.requires c.in-Trade.trade
 
 pub minute_end-requires : goal.minute_end-requires
 minute_end-requires c = figures_held _ c.requires

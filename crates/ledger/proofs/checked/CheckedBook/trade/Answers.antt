@@ -1,6 +1,5 @@
 -- `CheckedBook::trade` meets its contract, and leaves a book within its limits.
 use mathlib.Core.Path.{refl}
-use borrow.Author.Rules.{rules}
 use Rattle.calls.specs.declared.Call.TheVariants as call
 use Rattle.columns.specs.Columns.{accounts}
 use Rattle.ledger.proofs.Keeping.{still_within}
@@ -8,9 +7,7 @@ use Rattle.ledger.proofs.Lent.{tradable, trade-answered}
 use Rattle.ledger.proofs.checked.CheckedBook.trade.Goals as goal
 
 pub trade-requires : goal.trade-requires
-trade-requires c =
-    let k = c.args.self.now in
-    tradable k.book k.within c.args.trade (search rules) (search rules)
+trade-requires c = let k = c.args.self.now in tradable k.book k.within c.args.trade
 
 pub returns : goal.returns
 returns c = trade-answered c.args.self.now.within refl c.trade.ensures
