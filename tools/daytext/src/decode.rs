@@ -1,7 +1,8 @@
 //! Bytes to text.
 
 use crate::line::MOST_TIMES;
-use crate::record::{Record, KINDS};
+use crate::record::{Accounts, Record, KINDS};
+use dayformat::tag::TWO_BYTE_TRADE;
 use std::fmt;
 
 /// The text of a day file, each record with its place in the file as a comment.
@@ -56,16 +57,16 @@ impl fmt::Display for Record {
     fn fmt(&self, formatter: &mut fmt::Formatter) -> fmt::Result {
         match self {
             Record::Trade {
-                buyer,
-                seller,
+                accounts,
                 kind,
                 quantity,
                 price,
             } => {
-                let kind = Kind(*kind);
+                let (buyer, seller) = accounts.numbers();
+                let (kind, tag) = (Kind(*kind), AsTag(*accounts));
                 write!(
                     formatter,
-                    "trade {buyer} {seller} {kind} {quantity} at {price}"
+                    "trade {buyer} {seller} {kind} {quantity} at {price}{tag}"
                 )
             }
             Record::Quote { bid, offer } => {
@@ -94,6 +95,20 @@ impl fmt::Display for Kind {
         match KINDS.iter().find(|(kind, _)| *kind == self.0) {
             Some((_, word)) => write!(formatter, "{word}"),
             None => write!(formatter, "{}", self.0),
+        }
+    }
+}
+
+/// The tag of a trade, which its line says only where one byte would hold each account.
+struct AsTag(Accounts);
+
+impl fmt::Display for AsTag {
+    fn fmt(&self, formatter: &mut fmt::Formatter) -> fmt::Result {
+        let (buyer, seller) = self.0.numbers();
+        if self.0 == Accounts::shortest(buyer, seller) {
+            Ok(())
+        } else {
+            write!(formatter, " as tag {TWO_BYTE_TRADE}")
         }
     }
 }

@@ -1,6 +1,6 @@
 //! One line of the text.
 
-use crate::record::{Record, KINDS};
+use crate::record::{Accounts, Record, KINDS};
 use crate::value;
 use dayformat::LONGEST_BODY;
 use std::iter::Peekable;
@@ -36,7 +36,7 @@ pub fn parse(line: &str) -> Result<Line, String> {
             Line::Record(record, words.times()?)
         }
     };
-    words.end(&parsed)?;
+    words.end()?;
     Ok(parsed)
 }
 
@@ -78,7 +78,7 @@ impl Words<'_> {
     fn quote(&mut self) -> Result<Record, String> {
         let bid = self.number_or_none("bid")?;
         let offer = self.number_or_none("offer")?;
-        if self.0.next_if_eq(&"after").is_none() {
+        if !self.begins("after", "after and milliseconds")? {
             return Ok(Record::Quote { bid, offer });
         }
         let time = self.two_bytes("time in milliseconds")?;
@@ -86,19 +86,39 @@ impl Words<'_> {
     }
 
     fn trade(&mut self) -> Result<Record, String> {
-        let buyer = self.byte("buyer", "")?;
-        let seller = self.byte("seller", "")?;
+        let buyer = self.two_bytes("buyer")?;
+        let seller = self.two_bytes("seller")?;
         let kind = self.kind()?;
         let quantity = self.number("quantity", 0..=u32::MAX, "")?;
         self.word("at", "price")?;
         let price = self.number("price", 0..=u32::MAX, "")?;
+        let accounts = if self.as_tag_10()? {
+            Accounts::TwoBytes(buyer, seller)
+        } else {
+            Accounts::shortest(buyer, seller)
+        };
         Ok(Record::Trade {
-            buyer,
-            seller,
+            accounts,
             kind,
             quantity,
             price,
         })
+    }
+
+    fn as_tag_10(&mut self) -> Result<bool, String> {
+        if !self.begins("as", "as tag 10")? {
+            return Ok(false);
+        }
+        match (self.0.next(), self.0.next()) {
+            (Some("tag"), Some("10")) => Ok(true),
+            (Some("tag"), Some(tag)) => {
+                Err(format!("the tag is \"{tag}\"; expected 10, or no tag"))
+            }
+            (None | Some("tag"), _) => {
+                Err("the tag after as is missing; expected tag 10".to_string())
+            }
+            (Some(word), _) => Err(format!("\"{word}\" after as; expected tag 10")),
+        }
     }
 
     fn kind(&mut self) -> Result<u8, String> {
@@ -148,11 +168,27 @@ impl Words<'_> {
         Ok(bytes)
     }
 
-    fn times(&mut self) -> Result<u32, String> {
-        if self.0.next_if_eq(&"times").is_none() {
-            return Ok(1);
+    /// Whether a part that may be left out begins here, with `word`.
+    fn begins(&mut self, word: &str, part: &str) -> Result<bool, String> {
+        match self.0.peek() {
+            Some(&next) if next == word => {
+                self.0.next();
+                Ok(true)
+            }
+            None | Some(&"times") => Ok(false),
+            Some(next) => Err(too_much(
+                next,
+                &format!("the end of the line, {part}, or times and a number"),
+            )),
         }
-        self.number("count after times", 1..=MOST_TIMES, "")
+    }
+
+    fn times(&mut self) -> Result<u32, String> {
+        match self.0.next() {
+            None => Ok(1),
+            Some("times") => self.number("count after times", 1..=MOST_TIMES, ""),
+            Some(word) => Err(too_much(word, "the end of the line, or times and a number")),
+        }
     }
 
     fn byte(&mut self, name: &str, others: &str) -> Result<u8, String> {
@@ -202,17 +238,14 @@ impl Words<'_> {
         }
     }
 
-    fn end(&mut self, parsed: &Line) -> Result<(), String> {
-        let expected = match parsed {
-            Line::Record(Record::Quote { .. }, 1) => {
-                "the end of the line, after and milliseconds, or times and a number"
-            }
-            Line::Record(_, 1) => "the end of the line, or times and a number",
-            _ => "the end of the line",
-        };
+    fn end(&mut self) -> Result<(), String> {
         match self.0.next() {
             None => Ok(()),
-            Some(word) => Err(format!("\"{word}\" is too much; expected {expected}")),
+            Some(word) => Err(too_much(word, "the end of the line")),
         }
     }
+}
+
+fn too_much(word: &str, expected: &str) -> String {
+    format!("\"{word}\" is too much; expected {expected}")
 }

@@ -25,6 +25,9 @@ The text has one call a line; # begins a comment.
   quote 200100 200300 after 30000  with its time, milliseconds into the minute
   trade 3 7 simple 12 at 200200    buyer, seller, kind, quantity, price;
                                    kinds: simple, spread, block, or a number
+  trade 3 7 simple 12 at 200200 as tag 10
+                                   accounts in two bytes, as they also are
+                                   where one is above 255
   minute 200,000 times 1319        index, - for none; times repeats a line
   halt
   resume

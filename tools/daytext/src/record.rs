@@ -1,7 +1,7 @@
 //! The records of a day file, each with its fields.
 
 use dayformat::tag::{
-    CLOSE, FIX, HALT, LENGTH_OF_DAY, MINUTE_END, QUOTE, RESUME, TIMED_QUOTE, TRADE,
+    CLOSE, FIX, HALT, LENGTH_OF_DAY, MINUTE_END, QUOTE, RESUME, TIMED_QUOTE, TRADE, TWO_BYTE_TRADE,
 };
 use dayformat::{header, kind, Writer};
 
@@ -12,11 +12,36 @@ pub const KINDS: [(u8, &str); 3] = [
     (kind::BLOCK, "block"),
 ];
 
+/// The buyer and the seller of a trade, as they are written.
+#[derive(Clone, Copy, Debug, PartialEq, Eq)]
+pub enum Accounts {
+    /// Tag 1.
+    OneByte(u8, u8),
+    /// Tag 10.
+    TwoBytes(u16, u16),
+}
+
+impl Accounts {
+    /// One byte each where both fit.
+    pub fn shortest(buyer: u16, seller: u16) -> Accounts {
+        match (u8::try_from(buyer), u8::try_from(seller)) {
+            (Ok(buyer), Ok(seller)) => Accounts::OneByte(buyer, seller),
+            _ => Accounts::TwoBytes(buyer, seller),
+        }
+    }
+
+    pub fn numbers(self) -> (u16, u16) {
+        match self {
+            Accounts::OneByte(buyer, seller) => (buyer.into(), seller.into()),
+            Accounts::TwoBytes(buyer, seller) => (buyer, seller),
+        }
+    }
+}
+
 #[derive(Clone, Debug, PartialEq, Eq)]
 pub enum Record {
     Trade {
-        buyer: u8,
-        seller: u8,
+        accounts: Accounts,
         kind: u8,
         quantity: u32,
         price: u32,
@@ -54,13 +79,15 @@ impl Record {
     /// The record of a tag and a body of at most `dayformat::LONGEST_BODY` bytes.
     pub fn new(tag: u8, body: &[u8]) -> Record {
         match (tag, body) {
-            (TRADE, &[buyer, seller, kind, a, b, c, d, e, f, g, h]) => Record::Trade {
-                buyer,
-                seller,
-                kind,
-                quantity: u32::from_be_bytes([a, b, c, d]),
-                price: u32::from_be_bytes([e, f, g, h]),
-            },
+            (TRADE, &[buyer, seller, kind, a, b, c, d, e, f, g, h]) => {
+                let accounts = Accounts::OneByte(buyer, seller);
+                trade(accounts, kind, [a, b, c, d], [e, f, g, h])
+            }
+            (TWO_BYTE_TRADE, &[a, b, c, d, kind, e, f, g, h, i, j, k, l]) => {
+                let (buyer, seller) = (u16::from_be_bytes([a, b]), u16::from_be_bytes([c, d]));
+                let accounts = Accounts::TwoBytes(buyer, seller);
+                trade(accounts, kind, [e, f, g, h], [i, j, k, l])
+            }
             (QUOTE, &[a, b, c, d, e, f, g, h]) => Record::Quote {
                 bid: u32::from_be_bytes([a, b, c, d]),
                 offer: u32::from_be_bytes([e, f, g, h]),
@@ -100,12 +127,18 @@ impl Record {
         let mut file = Writer::new();
         match self {
             Record::Trade {
-                buyer,
-                seller,
+                accounts,
                 kind,
                 quantity,
                 price,
-            } => file.trade((*buyer, *seller), *kind, *quantity, *price),
+            } => match *accounts {
+                Accounts::OneByte(buyer, seller) => {
+                    file.trade((buyer, seller), *kind, *quantity, *price)
+                }
+                Accounts::TwoBytes(buyer, seller) => {
+                    file.two_byte_trade((buyer, seller), *kind, *quantity, *price)
+                }
+            },
             Record::Quote { bid, offer } => file.quote(*bid, *offer),
             Record::MinuteEnd { index } => file.minute_ends(1, *index),
             Record::Halt => file.halt(),
@@ -117,5 +150,14 @@ impl Record {
             Record::Other { tag, body } => file.record(*tag, body),
         };
         file.bytes
+    }
+}
+
+fn trade(accounts: Accounts, kind: u8, quantity: [u8; 4], price: [u8; 4]) -> Record {
+    Record::Trade {
+        accounts,
+        kind,
+        quantity: u32::from_be_bytes(quantity),
+        price: u32::from_be_bytes(price),
     }
 }

@@ -38,8 +38,8 @@ fn missing_values() {
         ("quote 200100", "offer", NUMBER_OR_NONE),
         ("quote 1 2 after", "time in milliseconds", TWO_BYTES),
         ("minute", "index", NUMBER_OR_NONE),
-        ("trade", "buyer", BYTE),
-        ("trade 3", "seller", BYTE),
+        ("trade", "buyer", TWO_BYTES),
+        ("trade 3", "seller", TWO_BYTES),
         ("trade 3 7", "kind", KIND),
         ("trade 3 7 simple", "quantity", NUMBER),
         ("trade 3 7 simple 12 at", "price", NUMBER),
@@ -69,8 +69,9 @@ fn wrong_numbers() {
         ),
         ("minute times 3", "index is \"times\"", NUMBER_OR_NONE),
         ("fix none", "set price is \"none\"", NUMBER_OR_NONE),
-        ("trade 256 7 simple 12 at 5000", "buyer is \"256\"", BYTE),
-        ("trade 3 -7 simple 12 at 5000", "seller is \"-7\"", BYTE),
+        ("trade 65536 7", "buyer is \"65536\"", TWO_BYTES),
+        ("trade 3 65,536", "seller is \"65,536\"", TWO_BYTES),
+        ("trade 3 -7", "seller is \"-7\"", TWO_BYTES),
         ("trade 3 7 swap 12 at 5000", "kind is \"swap\"", KIND),
         (
             "trade 3 7 simple 1.5 at 5000",
@@ -104,6 +105,24 @@ fn wrong_times() {
 }
 
 #[test]
+fn wrong_tags_of_trades() {
+    for (tag, expected) in [
+        ("as", "the tag after as is missing; expected tag 10"),
+        ("as tag", "the tag after as is missing; expected tag 10"),
+        ("as 10", "\"10\" after as; expected tag 10"),
+        ("as times 2", "\"times\" after as; expected tag 10"),
+        ("as tag 1", "the tag is \"1\"; expected 10, or no tag"),
+        (
+            "as tag times 2",
+            "the tag is \"times\"; expected 10, or no tag",
+        ),
+    ] {
+        check(&format!("trade 3 7 simple 12 at 200200 {tag}"), expected);
+        check(&format!("trade 3 256 block 12 at 200200 {tag}"), expected);
+    }
+}
+
+#[test]
 fn wrong_words() {
     check(
         "trade 3 7 simple 12 200200",
@@ -129,12 +148,32 @@ fn words_too_much() {
         "\"ms\" is too much; expected the end of the line, or times and a number",
     );
     check(
+        "trade 3 7 simple 12 at 200200 tag 10",
+        "\"tag\" is too much; expected the end of the line, as tag 10, or times and a number",
+    );
+    check(
+        "trade 3 256 simple 12 at 200200 300",
+        "\"300\" is too much; expected the end of the line, as tag 10, or times and a number",
+    );
+    check(
+        "trade 3 7 simple 12 at 200200 as tag 10 as tag 10",
+        "\"as\" is too much; expected the end of the line, or times and a number",
+    );
+    check(
+        "trade 3 7 simple 12 at 200200 times 1 as tag 10",
+        "\"as\" is too much; expected the end of the line",
+    );
+    check(
         "quote 1 2 times 2 after 30000",
         "\"after\" is too much; expected the end of the line",
     );
     check(
         "halt now",
         "\"now\" is too much; expected the end of the line, or times and a number",
+    );
+    check(
+        "halt times 1 now",
+        "\"now\" is too much; expected the end of the line",
     );
     check(
         "halt times 2 times 2",

@@ -50,24 +50,10 @@ fn timed_quotes() {
 }
 
 #[test]
-fn kinds() {
-    for (word, kind) in [
-        ("simple", 0),
-        ("spread", 1),
-        ("block", 2),
-        ("1", 1),
-        ("255", 255),
-    ] {
-        let line = format!("trade 0 255 {word} 1 at 2");
-        let bytes = [1, 0, 11, 0, 255, kind, 0, 0, 0, 1, 0, 0, 0, 2];
-        check(&line, &bytes);
-    }
-}
-
-#[test]
 fn damaged_records() {
     check("record 200", &[200, 0, 0]);
     check("record 9", &[9, 0, 0]);
+    check("record 10 03 FF", &[10, 0, 2, 3, 255]);
     check("record 3 01 02FF", &[3, 0, 3, 1, 2, 255]);
     check("record 255 00 times 2", &[255, 0, 1, 0, 255, 0, 1, 0]);
     check("record 8 04", &[8, 0, 1, 4]);

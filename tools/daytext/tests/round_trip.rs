@@ -1,6 +1,6 @@
 //! Every byte string has a text that gives it back.
 
-use dayformat::body_length;
+use dayformat::{body_length, tag, Writer};
 use std::ops::Range;
 
 /// Xorshift with a fixed seed, so that a failure can be repeated.
@@ -25,14 +25,15 @@ impl Random {
 
     /// A record whose length often fits its tag, with few different bodies.
     fn record(&mut self) -> Vec<u8> {
-        let tag = self.below(11) as u8;
+        // 0 and the first number past the known tags are unknown.
+        let tag = self.below(tag::KNOWN.len() + 2) as u8;
         let length = match self.below(4) {
-            0 => self.below(14),
+            0 => self.below(16),
             _ => body_length(tag).unwrap_or(0),
         };
-        let value = self.below(3) as u8;
+        let (value, zeros) = (self.below(3) as u8, self.below(2));
         let mut record = vec![tag, 0, length as u8];
-        record.extend((0..length).map(|place| value * (place % 2) as u8));
+        record.extend((0..length).map(|place| if place % 2 == zeros { 0 } else { value }));
         record
     }
 
@@ -63,6 +64,35 @@ fn every_string_of_up_to_two_bytes() {
         check(&[first]);
         for second in 0..=255 {
             check(&[first, second]);
+        }
+    }
+}
+
+#[test]
+fn every_tag_with_every_length_of_up_to_15_bytes() {
+    for tag in 0..=255 {
+        for length in 0..16 {
+            for body in [vec![0; length], (0..length as u8).collect()] {
+                let mut file = Writer::new();
+                file.bytes.push(10);
+                check(&file.record(tag, &body).bytes);
+            }
+        }
+    }
+}
+
+#[test]
+fn trades_of_every_pair_of_accounts_by_each_tag() {
+    let accounts = [0, 1, 254, 255, 256, 257, 1_023, 1_024, 65_534, 65_535];
+    for buyer in accounts {
+        for seller in accounts {
+            let mut file = Writer::new();
+            file.bytes.push(1);
+            file.two_byte_trade((buyer, seller), 2, 250, 5_001);
+            if let (Ok(buyer), Ok(seller)) = (u8::try_from(buyer), u8::try_from(seller)) {
+                file.trade((buyer, seller), 2, 250, 5_001);
+            }
+            check(&file.bytes);
         }
     }
 }
