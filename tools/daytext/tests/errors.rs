@@ -132,57 +132,38 @@ fn wrong_words() {
     check("bytes 0g", &format!("\"0g\" is no bytes; {HEXADECIMAL}"));
 }
 
+/// Checks that a word of a line is too much, and what could stand in its place.
+#[track_caller]
+fn check_too_much(line: &str, word: &str, others: &str) {
+    let expected = format!("expected the end of the line{others}");
+    check(line, &format!("\"{word}\" is too much; {expected}"));
+}
+
 #[test]
 fn words_too_much() {
-    check(
-        "length 1140 1320",
-        "\"1320\" is too much; expected the end of the line, or times and a number",
-    );
-    check(
-        "quote 1 2 at 30000",
-        "\"at\" is too much; expected the end of the line, after and milliseconds, \
-         or times and a number",
-    );
-    check(
-        "quote 1 2 after 30000 ms",
-        "\"ms\" is too much; expected the end of the line, or times and a number",
-    );
-    check(
-        "trade 3 7 simple 12 at 200200 tag 10",
-        "\"tag\" is too much; expected the end of the line, as tag 10, or times and a number",
-    );
-    check(
-        "trade 3 256 simple 12 at 200200 300",
-        "\"300\" is too much; expected the end of the line, as tag 10, or times and a number",
-    );
-    check(
-        "trade 3 7 simple 12 at 200200 as tag 10 as tag 10",
-        "\"as\" is too much; expected the end of the line, or times and a number",
-    );
-    check(
-        "trade 3 7 simple 12 at 200200 times 1 as tag 10",
-        "\"as\" is too much; expected the end of the line",
-    );
-    check(
-        "quote 1 2 times 2 after 30000",
-        "\"after\" is too much; expected the end of the line",
-    );
-    check(
-        "halt now",
-        "\"now\" is too much; expected the end of the line, or times and a number",
-    );
-    check(
-        "halt times 1 now",
-        "\"now\" is too much; expected the end of the line",
-    );
-    check(
-        "halt times 2 times 2",
-        "\"times\" is too much; expected the end of the line",
-    );
-    check(
-        "bytes 00 times 2\n#",
-        "\"times\" is too much; expected the end of the line",
-    );
+    let after = ", after and milliseconds, or times and a number";
+    check_too_much("quote 1 2 at 30000", "at", after);
+    let times = ", or times and a number";
+    check_too_much("quote 1 2 after 30000 ms", "ms", times);
+    check_too_much("length 1140 1320", "1320", times);
+    check_too_much("halt now", "now", times);
+    check_too_much("halt times 1 now", "now", "");
+    check_too_much("halt times 2 times 2", "times", "");
+    check_too_much("quote 1 2 times 2 after 30000", "after", "");
+    check_too_much("bytes 00 times 2\n#", "times", "");
+}
+
+#[test]
+fn words_too_much_of_trades() {
+    for accounts in ["3 7", "3 256"] {
+        let trade = format!("trade {accounts} simple 12 at 200200");
+        let tag = ", as tag 10, or times and a number";
+        check_too_much(&format!("{trade} tag 10"), "tag", tag);
+        check_too_much(&format!("{trade} 1"), "1", tag);
+        let times = ", or times and a number";
+        check_too_much(&format!("{trade} as tag 10 as tag 10"), "as", times);
+        check_too_much(&format!("{trade} times 1 as tag 10"), "as", "");
+    }
 }
 
 #[test]
