@@ -6,8 +6,8 @@
 #include <stddef.h>
 #include <stdint.h>
 
-/* Accounts are 0 to 255, and both lists have an entry for each. */
-#define FUNDING_ACCOUNTS 256
+/* Accounts are 0 to 1,023, and both lists have an entry for each. */
+#define FUNDING_ACCOUNTS 1024
 
 /* The bytes of an input, size byte included, that count for a printout. */
 #define FUNDING_PRINTOUT_INPUT 65536

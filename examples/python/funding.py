@@ -7,7 +7,7 @@ They are called in a shared object, which gcc makes from the archive:
 
 import ctypes
 
-ACCOUNTS = 256
+ACCOUNTS = 1024
 PART = 4096
 
 

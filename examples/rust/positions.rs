@@ -4,7 +4,7 @@ use std::process::ExitCode;
 
 /// The run of `include/funding.h`, without pointers.
 mod funding {
-    pub const ACCOUNTS: usize = 256;
+    pub const ACCOUNTS: usize = 1_024;
 
     pub struct Report {
         /// The number of accepted records.
