@@ -1,18 +1,9 @@
-/* Writes files of records in memory, for the tests of the C interface. */
-#ifndef RECORDS_H
-#define RECORDS_H
-
-#include <stdint.h>
+#include "records.h"
 #include <stdio.h>
 #include <stdlib.h>
 #include <string.h>
 
-struct file {
-    uint8_t *bytes;
-    size_t length, capacity;
-};
-
-static void add_bytes(struct file *file, const uint8_t *bytes, size_t length)
+void add_bytes(struct file *file, const uint8_t *bytes, size_t length)
 {
     if (file->capacity - file->length < length) {
         file->capacity = 2 * file->capacity + length;
@@ -27,7 +18,7 @@ static void add_bytes(struct file *file, const uint8_t *bytes, size_t length)
     file->length += length;
 }
 
-static void add_record(struct file *file, uint8_t tag, const uint8_t *body, size_t length)
+void add_record(struct file *file, uint8_t tag, const uint8_t *body, size_t length)
 {
     const uint8_t head[3] = {tag, (uint8_t)(length >> 8), (uint8_t)length};
     add_bytes(file, head, sizeof head);
@@ -40,7 +31,7 @@ static void put_number(uint8_t *bytes, uint32_t number)
         bytes[place] = (uint8_t)(number >> (24 - 8 * place));
 }
 
-static void add_trade(struct file *file, uint8_t buyer, uint8_t seller, uint32_t quantity, uint32_t price)
+void add_trade(struct file *file, uint8_t buyer, uint8_t seller, uint32_t quantity, uint32_t price)
 {
     uint8_t body[11] = {buyer, seller, 0};
     put_number(body + 3, quantity);
@@ -48,7 +39,15 @@ static void add_trade(struct file *file, uint8_t buyer, uint8_t seller, uint32_t
     add_record(file, 1, body, sizeof body);
 }
 
-static void add_quote(struct file *file, uint32_t bid, uint32_t offer)
+void add_two_byte_trade(struct file *file, uint16_t buyer, uint16_t seller, uint32_t quantity, uint32_t price)
+{
+    uint8_t body[13] = {(uint8_t)(buyer >> 8), (uint8_t)buyer, (uint8_t)(seller >> 8), (uint8_t)seller, 0};
+    put_number(body + 5, quantity);
+    put_number(body + 9, price);
+    add_record(file, 10, body, sizeof body);
+}
+
+void add_quote(struct file *file, uint32_t bid, uint32_t offer)
 {
     uint8_t body[8];
     put_number(body, bid);
@@ -56,8 +55,7 @@ static void add_quote(struct file *file, uint32_t bid, uint32_t offer)
     add_record(file, 2, body, sizeof body);
 }
 
-/* The time is in milliseconds into the minute. */
-static void add_timed_quote(struct file *file, uint16_t time, uint32_t bid, uint32_t offer)
+void add_timed_quote(struct file *file, uint16_t time, uint32_t bid, uint32_t offer)
 {
     uint8_t body[10] = {(uint8_t)(time >> 8), (uint8_t)time};
     put_number(body + 2, bid);
@@ -65,7 +63,7 @@ static void add_timed_quote(struct file *file, uint16_t time, uint32_t bid, uint
     add_record(file, 9, body, sizeof body);
 }
 
-static void add_minute_ends(struct file *file, int count, uint32_t index)
+void add_minute_ends(struct file *file, int count, uint32_t index)
 {
     uint8_t body[4];
     put_number(body, index);
@@ -73,22 +71,20 @@ static void add_minute_ends(struct file *file, int count, uint32_t index)
         add_record(file, 3, body, sizeof body);
 }
 
-static void add_fix(struct file *file, uint32_t set_price)
+void add_fix(struct file *file, uint32_t set_price)
 {
     uint8_t body[4];
     put_number(body, set_price);
     add_record(file, 6, body, sizeof body);
 }
 
-static void add_length(struct file *file, uint16_t minutes)
+void add_length(struct file *file, uint16_t minutes)
 {
     const uint8_t body[2] = {(uint8_t)(minutes >> 8), (uint8_t)minutes};
     add_record(file, 8, body, sizeof body);
 }
 
-static void add_close(struct file *file)
+void add_close(struct file *file)
 {
     add_record(file, 7, NULL, 0);
 }
-
-#endif
