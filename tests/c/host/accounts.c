@@ -110,25 +110,6 @@ static void lengths_of_the_other_tag_are_refused(void)
     free(day.bytes);
 }
 
-/* A file that ends anywhere in its last record reports the one before it. */
-static void a_cut_off_trade_ends_the_run(void)
-{
-    struct file day = {NULL, 0, 0};
-    add_two_byte_trade(&day, 256, 1023, 12, 200200);
-    size_t first = day.length;
-    add_two_byte_trade(&day, 257, 1022, 1, 200200);
-    size_t both = day.length;
-    for (day.length = first; day.length < both; day.length++) {
-        EXPECT(run(10, &day), 1);
-        expect_account(256, 12, 0);
-        expect_account(1023, -12, 0);
-        EXPECT(accounts_shown(), 2);
-    }
-    EXPECT(run(10, &day), 2);
-    EXPECT(accounts_shown(), 4);
-    free(day.bytes);
-}
-
 int test_accounts(void)
 {
     static const test_function tests[] = {
@@ -138,7 +119,6 @@ int test_accounts(void)
         every_account_has_its_entry,
         accounts_above_1023_are_refused,
         lengths_of_the_other_tag_are_refused,
-        a_cut_off_trade_ends_the_run,
     };
     return play(tests, sizeof tests / sizeof tests[0]);
 }

@@ -6,7 +6,7 @@
 #include <stdlib.h>
 #include <time.h>
 
-/* Plays such a day: the records accepted, and document 01's positions and cash. */
+/* Plays a day of add_example: the records accepted, and document 01's positions and cash. */
 static void expect_day(struct file *day, uint64_t accepted)
 {
     EXPECT(run(10, day), accepted);
@@ -76,21 +76,30 @@ static void an_empty_file_fills_zeros(void)
     EXPECT(accounts_shown(), 0);
 }
 
-/* A file that ends anywhere in its last record, a trade, reports the one before it. */
-static void a_record_cut_off_ends_the_run(void)
+/* A file that ends anywhere in its last record reports the trade before it. */
+static void expect_cut_off(struct file *day, size_t before)
 {
-    struct file day = {NULL, 0, 0};
-    add_trade(&day, 3, 7, 12, 200200);
-    size_t whole = day.length;
-    add_trade(&day, 5, 6, 1, 200200);
-    for (day.length = whole; day.length < 2 * whole; day.length++) {
-        EXPECT(run(10, &day), 1);
+    const size_t whole = day->length;
+    for (day->length = before; day->length < whole; day->length++) {
+        EXPECT(run(10, day), 1);
         expect_account(3, 12, 0);
         expect_account(7, -12, 0);
         EXPECT(accounts_shown(), 2);
     }
-    EXPECT(run(10, &day), 2);
+    EXPECT(run(10, day), 2);
     EXPECT(accounts_shown(), 4);
+}
+
+static void a_record_cut_off_ends_the_run(void)
+{
+    struct file day = {NULL, 0, 0};
+    add_trade(&day, 3, 7, 12, 200200);
+    const size_t before = day.length;
+    add_trade(&day, 5, 6, 1, 200200);
+    expect_cut_off(&day, before);
+    day.length = before;
+    add_two_byte_trade(&day, 5, 1023, 1, 200200);
+    expect_cut_off(&day, before);
     free(day.bytes);
 }
 
