@@ -46,7 +46,7 @@ static void trades_of_two_byte_accounts(void)
     free(day.bytes);
 }
 
-/* Account 259 is 1, 3 in bytes, which the other way round are account 769. */
+/* The bytes of account 259 are 1 and 3, which the other way round are account 769. */
 static void either_tag_trades_for_an_account(void)
 {
     struct file day = two_byte_day();
