@@ -7,9 +7,9 @@ use crate::settlement::Settlement;
 use crate::terms::CASH_PER_CENT;
 
 /// Contracts bought plus sold on the open day.
-pub fn volume(history: &History, account: Account, rules: &dyn CallRules) -> i128 {
+pub fn volume<R: CallRules + ?Sized>(history: &History, account: Account, rules: &R) -> i128 {
     let today = history.closed_days();
-    let trades = history.trades[usize::from(account)].iter().rev();
+    let trades = history.trades_of(account).iter().rev();
     trades
         .take_while(|trade| rules.counts_in_volume(trade, today))
         .map(|trade| rules.contracts(trade.trade, account))
@@ -28,7 +28,7 @@ fn trades_of(
     account: Account,
     days: usize,
 ) -> impl Iterator<Item = &AccountTrade> {
-    let trades = history.trades[usize::from(account)].iter();
+    let trades = history.trades_of(account).iter();
     trades.take_while(move |trade| trade.day < days)
 }
 

@@ -1,6 +1,7 @@
 //! The calls of a trade date.
 
-pub type Account = u8;
+/// 02-5: "Accounts become two-byte numbers."
+pub type Account = u16;
 
 #[derive(Clone, Copy, Debug, PartialEq, Eq)]
 pub struct Trade {
@@ -9,6 +10,8 @@ pub struct Trade {
     pub kind: u8,
     pub quantity: u32,
     pub price: u32,
+    /// Of its record, 1 or 10. No rule of the documents goes by it.
+    pub tag: u8,
 }
 
 impl Trade {

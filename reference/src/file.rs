@@ -2,7 +2,7 @@
 
 use crate::call::{Call, Market, TimedQuote, Trade};
 use crate::rules::FileRules;
-use dayformat::{body_length, header, tag};
+use dayformat::{header, tag};
 
 #[derive(Clone, Copy, Debug, PartialEq, Eq)]
 pub enum Record {
@@ -28,11 +28,11 @@ pub fn records(file: &[u8], rules: &dyn FileRules) -> Vec<Record> {
 /// The first record and the bytes after it, none without a whole one.
 fn first_record<'a>(file: &'a [u8], rules: &dyn FileRules) -> Option<(Record, &'a [u8])> {
     let (tag, length, bytes) = header(file)?;
-    match body_length(tag) {
+    match rules.body_length(tag) {
         None => Some((Record::Unknown, bytes.get(length..)?)),
         Some(known) if known == length => {
             let (body, after) = bytes.split_at_checked(length)?;
-            Some((Record::Call(call(tag, body)), after))
+            Some((Record::Call(call(tag, body, rules)), after))
         }
         Some(_) => Some((
             Record::WrongLength,
@@ -43,15 +43,9 @@ fn first_record<'a>(file: &'a [u8], rules: &dyn FileRules) -> Option<(Record, &'
 
 /// The call of a known tag and a body of its length. Its fields are read here and not beside their
 /// writer, so that each is written from the documents and they check each other.
-fn call(tag: u8, body: &[u8]) -> Call {
+fn call(tag: u8, body: &[u8], rules: &dyn FileRules) -> Call {
     match tag {
-        tag::TRADE => Call::Trade(Trade {
-            buyer: body[0],
-            seller: body[1],
-            kind: body[2],
-            quantity: number(&body[3..7]),
-            price: number(&body[7..11]),
-        }),
+        tag::TRADE | tag::TWO_BYTE_TRADE => Call::Trade(trade(tag, body, rules)),
         tag::QUOTE => Call::Quote(market(body)),
         tag::TIMED_QUOTE => Call::TimedQuote(TimedQuote {
             time: number(&body[0..2]) as u16,
@@ -66,6 +60,19 @@ fn call(tag: u8, body: &[u8]) -> Call {
     }
 }
 
+fn trade(tag: u8, body: &[u8], rules: &dyn FileRules) -> Trade {
+    let (buyer, after) = body.split_at(rules.account_bytes(tag));
+    let (seller, after) = after.split_at(rules.account_bytes(tag));
+    Trade {
+        buyer: rules.account(buyer),
+        seller: rules.account(seller),
+        kind: after[0],
+        quantity: number(&after[1..5]),
+        price: number(&after[5..9]),
+        tag,
+    }
+}
+
 fn market(sides: &[u8]) -> Market {
     Market {
         bid: number(&sides[0..4]),
@@ -74,7 +81,7 @@ fn market(sides: &[u8]) -> Market {
 }
 
 /// High byte first.
-fn number(bytes: &[u8]) -> u32 {
+pub fn number(bytes: &[u8]) -> u32 {
     bytes
         .iter()
         .fold(0, |value, byte| value << 8 | u32::from(*byte))

@@ -1,9 +1,9 @@
 //! The accepted calls since the opening, as lists, beside the records that do nothing. Nothing here is
 //! a running sum.
 
-use crate::call::{Call, Trade};
+use crate::call::{Account, Call, Trade};
 use crate::file::Record;
-use crate::terms::ACCOUNTS;
+use std::collections::BTreeMap;
 use std::ops::Range;
 
 /// The accepted calls of one day, in order.
@@ -122,8 +122,8 @@ pub struct History {
     pub size: u8,
     /// The closed days and, last, the open one.
     pub days: Vec<Day>,
-    /// Each account's trades, in order.
-    pub trades: Vec<Vec<AccountTrade>>,
+    /// The trades of each account that has any, in order.
+    pub trades: BTreeMap<Account, Vec<AccountTrade>>,
     /// Halts and resumes of all days, in order.
     pub halts: Vec<HaltOrResume>,
 }
@@ -133,7 +133,7 @@ impl History {
         History {
             size,
             days: vec![Day::default()],
-            trades: vec![Vec::new(); ACCOUNTS],
+            trades: BTreeMap::new(),
             halts: Vec::new(),
         }
     }
@@ -178,10 +178,15 @@ impl History {
             after_fix: self.open_day().is_fixed(),
             trade,
         };
-        self.trades[usize::from(trade.buyer)].push(account_trade);
+        let mut add = |account| self.trades.entry(account).or_default().push(account_trade);
+        add(trade.buyer);
         if !trade.is_with_oneself() {
-            self.trades[usize::from(trade.seller)].push(account_trade);
+            add(trade.seller);
         }
+    }
+
+    pub fn trades_of(&self, account: Account) -> &[AccountTrade] {
+        self.trades.get(&account).map_or(&[], Vec::as_slice)
     }
 
     /// The halts and resumes before a place among the calls of a day.
@@ -195,6 +200,7 @@ impl History {
 mod tests {
     use super::*;
     use crate::call::Market;
+    use dayformat::tag;
 
     /// The separate lists hold what a walk over all calls finds.
     #[test]
@@ -228,9 +234,9 @@ mod tests {
             assert_eq!(listed(true), places(|call| *call == Call::Halt));
             assert_eq!(listed(false), places(|call| *call == Call::Resume));
         }
-        for account in 0..=u8::MAX {
+        for account in 0..=u16::MAX {
             let walked = trades_by_walking(&history, account);
-            assert_eq!(history.trades[usize::from(account)], walked);
+            assert_eq!(history.trades_of(account), walked);
         }
     }
 
@@ -242,7 +248,7 @@ mod tests {
         assert_eq!([before(1, 0), before(1, 9), before(1, 10)], [3, 4, 5]);
     }
 
-    fn trades_by_walking(history: &History, account: u8) -> Vec<AccountTrade> {
+    fn trades_by_walking(history: &History, account: Account) -> Vec<AccountTrade> {
         let mut trades = Vec::new();
         for (day, list) in history.days.iter().enumerate() {
             for (place, call) in list.calls.iter().enumerate() {
@@ -270,6 +276,7 @@ mod tests {
                 kind: 0,
                 quantity: 1,
                 price: 5_000,
+                tag: tag::TWO_BYTE_TRADE,
             })
         };
         let day = [
@@ -283,7 +290,7 @@ mod tests {
             Call::MinuteEnd(0),
             trade(2, 2),
             Call::Fix(5_000),
-            trade(2, 3),
+            trade(2, 1_023),
             Call::Halt,
             Call::Resume,
             Call::Halt,

@@ -52,7 +52,7 @@ pub fn size_and_records(input: &[u8]) -> (u8, &[u8]) {
 /// The run offered to C: accepted records, and the lists unless they stay untouched.
 pub fn c_run(size: u8, file: &[u8]) -> (u64, Option<Lists>) {
     let played = play(size, file, Rules::RIGHT);
-    played.map_or((0, None), |played| played.c_run())
+    played.map_or((0, None), |played| played.c_run([ACCOUNTS; 2]))
 }
 
 /// What a program that links the C library prints: size byte and file on standard input.

@@ -64,9 +64,14 @@ impl Played {
         self.answers.iter().filter(is_accepted).count() as u64
     }
 
-    /// What the run for C gives: accepted records, and the lists unless they stay untouched.
-    pub fn c_run(&self) -> (u64, Option<Lists>) {
-        (self.accepted(), self.rules.files.lists(self))
+    /// What the run for C gives with lists of these lengths: accepted records, and the lists unless they
+    /// stay untouched.
+    pub fn c_run(&self, lengths: [usize; 2]) -> (u64, Option<Lists>) {
+        let files = self.rules.files;
+        match lengths.iter().any(|length| files.refuses_list(*length)) {
+            true => (0, None),
+            false => (self.accepted(), files.lists(self)),
+        }
     }
 
     /// The settlements of the fixed days, in order.
@@ -81,12 +86,19 @@ impl Played {
         let (history, rules) = (&self.history, self.rules.calls);
         let closed = ClosedDays::new(&self.settlements()[..history.closed_days()]);
         (
-            by_account(|account| position(history, account, history.days.len(), rules)),
-            by_account(|account| closed.cash(history, account, rules)),
+            self.by_account(|account| position(history, account, history.days.len(), rules)),
+            self.by_account(|account| closed.cash(history, account, rules)),
         )
     }
-}
 
-fn by_account(figure: impl Fn(Account) -> i128) -> [i64; ACCOUNTS] {
-    std::array::from_fn(|account| i64::try_from(figure(account as Account)).expect("fits 64 bits"))
+    /// A list of a figure that is 0 for an account without trades.
+    fn by_account(&self, figure: impl Fn(Account) -> i128) -> [i64; ACCOUNTS] {
+        let mut list = [0; ACCOUNTS];
+        for account in self.history.trades.keys() {
+            if let Some(entry) = list.get_mut(usize::from(*account)) {
+                *entry = i64::try_from(figure(*account)).expect("fits 64 bits");
+            }
+        }
+        list
+    }
 }

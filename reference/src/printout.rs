@@ -18,7 +18,8 @@ pub fn bench_text(played: Option<&Played>) -> String {
 
 /// What a program that links the C library prints of it.
 pub fn library_text(played: Option<&Played>) -> String {
-    let (accepted, lists) = played.map_or((0, None), Played::c_run);
+    let of_run = |played: &Played| played.c_run([ACCOUNTS; 2]);
+    let (accepted, lists) = played.map_or((0, None), of_run);
     let mut text = format!("accepted {accepted}\n");
     match lists {
         None => text.push_str("untouched\n"),
@@ -70,7 +71,7 @@ fn close_lines(played: &Played, settlements: &[Settlement]) -> Vec<String> {
         let shown = rules.files.close_prints(net, cash);
         shown.then(|| format!("acct {account} net {net} cash {cash}"))
     };
-    (0..ACCOUNTS)
-        .filter_map(|account| line(account as Account))
-        .collect()
+    // Without trades an account has neither.
+    let traded = history.trades.range(rules.files.printed_accounts());
+    traded.filter_map(|(account, _)| line(*account)).collect()
 }

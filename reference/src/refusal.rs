@@ -1,6 +1,6 @@
 //! The refusals that a call can meet.
 
-use crate::accounts::{position, volume};
+use crate::accounts::position;
 use crate::call::{Account, Call, Market, Trade};
 use crate::history::History;
 use crate::rules::Rules;
@@ -16,6 +16,7 @@ pub const VOLUME: u8 = 7;
 pub const POSITION: u8 = 8;
 pub const NO_PRICE: u8 = 9;
 pub const TIME: u8 = 11;
+pub const ACCOUNT: u8 = 12;
 
 /// One step of the checking order.
 #[derive(Clone, Copy, Debug, PartialEq, Eq)]
@@ -25,6 +26,7 @@ pub enum Check {
     Field,
     Time,
     Crossed,
+    Account,
     BuyerVolume,
     SellerVolume,
     BuyerPosition,
@@ -32,13 +34,15 @@ pub enum Check {
     NoPrice,
 }
 
-/// 7 is tested for both accounts before 8 for either; 02-4: 11 is "checked right after 5".
-pub const CHECKING_ORDER: [Check; 10] = [
+/// 7 is tested for both accounts before 8 for either; 02-4: 11 is "checked right after 5"; 02-5: 12 is
+/// "checked just before 7".
+pub const CHECKING_ORDER: [Check; 11] = [
     Check::Day,
     Check::Halt,
     Check::Field,
     Check::Time,
     Check::Crossed,
+    Check::Account,
     Check::BuyerVolume,
     Check::SellerVolume,
     Check::BuyerPosition,
@@ -47,13 +51,14 @@ pub const CHECKING_ORDER: [Check; 10] = [
 ];
 
 impl Check {
-    fn number(self) -> u8 {
+    pub fn number(self) -> u8 {
         match self {
             Check::Day => DAY,
             Check::Halt => HALT,
             Check::Field => FIELD,
             Check::Time => TIME,
             Check::Crossed => CROSSED,
+            Check::Account => ACCOUNT,
             Check::BuyerVolume | Check::SellerVolume => VOLUME,
             Check::BuyerPosition | Check::SellerPosition => POSITION,
             Check::NoPrice => NO_PRICE,
@@ -70,7 +75,7 @@ pub fn refusal(history: &History, call: Call, rules: Rules) -> Option<u8> {
     };
     let mut order = rules.refusals.checking_order(call).iter();
     let first = order.find(|check| asked.meets(**check));
-    first.map(|check| check.number())
+    first.map(|check| rules.refusals.number(*check))
 }
 
 /// A call that isn't accepted yet.
@@ -90,6 +95,7 @@ impl Asked<'_> {
             (Check::Crossed, call) => call
                 .quoted()
                 .is_some_and(|market| self.rules.refusals.is_crossed(market)),
+            (Check::Account, Call::Trade(trade)) => self.rules.refusals.names_no_account(*trade),
             (Check::BuyerVolume, Call::Trade(trade)) => self.passes_volume(trade, trade.buyer),
             (Check::SellerVolume, Call::Trade(trade)) => self.passes_volume(trade, trade.seller),
             (Check::BuyerPosition, Call::Trade(trade)) => self.passes_position(trade, trade.buyer),
@@ -167,7 +173,7 @@ impl Asked<'_> {
     }
 
     fn passes_volume(&self, trade: &Trade, account: Account) -> bool {
-        let present = volume(self.history, account, self.rules.calls);
+        let present = self.rules.calls.volume(self.history, account);
         let after = present + self.rules.calls.contracts(*trade, account);
         after > self.rules.refusals.volume_limit()
     }

@@ -1,6 +1,7 @@
 //! Units, and the terms of a product.
 
-pub const ACCOUNTS: usize = 256;
+/// 02-5: "Accounts become two-byte numbers, 0 to 1,023."
+pub const ACCOUNTS: usize = 1_024;
 
 /// "A rate is in nano (10^-9)."
 pub const NANO: i128 = 1_000_000_000;

@@ -25,7 +25,7 @@ fn the_example_of_document_01() {
                     acct 9 net -5 cash 5000\n\
                     end\n";
     assert_eq!(printout(10, &file), expected);
-    let (mut positions, mut cash) = ([0; 256], [0; 256]);
+    let (mut positions, mut cash) = ([0; 1_024], [0; 1_024]);
     (positions[3], positions[7], positions[9]) = (12, -7, -5);
     (cash[3], cash[7], cash[9]) = (-24_000, 19_000, 5_000);
     assert_eq!(c_run(10, &file.bytes), (1_325, Some((positions, cash))));
@@ -40,8 +40,8 @@ fn sizes_and_short_inputs() {
     assert_eq!(bench(&[10, 9, 0]), "refused 1 record 1\nend\n");
     assert_eq!(bench(&[10, 77, 0]), "refused 1 record 1\nend\n");
     assert_eq!(c_run(2, &[4, 0, 0]), (0, None));
-    assert_eq!(c_run(1, &[9, 0, 0]), (0, Some(([0; 256], [0; 256]))));
-    assert_eq!(c_run(1, &[77, 0, 0]), (0, Some(([0; 256], [0; 256]))));
+    assert_eq!(c_run(1, &[9, 0, 0]), (0, Some(([0; 1_024], [0; 1_024]))));
+    assert_eq!(c_run(1, &[77, 0, 0]), (0, Some(([0; 1_024], [0; 1_024]))));
 }
 
 #[test]

@@ -94,9 +94,10 @@ fn a_second_length_of_day_is_refused_by_3() {
 
 #[test]
 fn a_length_of_day_after_a_call_that_begins_the_date_is_refused_by_3() {
-    let begins: [fn(&mut Writer) -> &mut Writer; 4] = [
+    let begins: [fn(&mut Writer) -> &mut Writer; 5] = [
         |file| file.quote(0, 0),
         |file| file.trade((1, 1), 1, 1, 5_000),
+        |file| file.two_byte_trade((1, 1), 1, 1, 5_000),
         |file| file.halt(),
         |file| file.minute_ends(1, 0),
     ];

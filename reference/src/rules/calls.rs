@@ -1,9 +1,9 @@
 //! Units, products, and a trade date call by call.
 
-use crate::accounts::ClosedDays;
+use crate::accounts::{volume, ClosedDays};
 use crate::call::{Account, Call, Market, Trade};
 use crate::fraction::Fraction;
-use crate::history::{AccountTrade, Day, HaltOrResume};
+use crate::history::{AccountTrade, Day, HaltOrResume, History};
 use crate::minutes::{Minute, Start, ValidMinute};
 use crate::settlement::PriceRule;
 use crate::terms::{Terms, AMOUNT_DIVISOR, FULL_DAY, NANO, SHORT_DAY};
@@ -101,6 +101,11 @@ pub trait CallRules: Sync {
     /// "Each account's v rises by the quantity"; with oneself "v rises twice".
     fn contracts(&self, trade: Trade, account: Account) -> i128 {
         trade.bought(account) + trade.sold(account)
+    }
+
+    /// An account's v. 02-5: "The book's limits hold for each of 1,024 accounts."
+    fn volume(&self, history: &History, account: Account) -> i128 {
+        volume(history, account, self)
     }
 
     /// v is "contracts bought plus sold today".

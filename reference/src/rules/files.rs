@@ -1,10 +1,33 @@
 //! Reports, file and program.
 
+use crate::call::Account;
+use crate::file::number;
 use crate::play::{Answer, Played};
+use crate::terms::ACCOUNTS;
 use crate::Lists;
-use dayformat::BENCH_LIMIT;
+use dayformat::{body_length, tag, BENCH_LIMIT};
+use std::ops::Range;
 
 pub trait FileRules: Sync {
+    /// The length that belongs to a tag, none for an unknown one: "Other tags are unknown."
+    fn body_length(&self, tag: u8) -> Option<usize> {
+        body_length(tag)
+    }
+
+    /// The bytes of buyer and of seller in a trade. 02-5: "Tag 10 is a trade with two-byte buyer and
+    /// seller; tag 1 still reads as before", "buyer 1 byte, seller 1".
+    fn account_bytes(&self, tag: u8) -> usize {
+        match tag {
+            tag::TWO_BYTE_TRADE => 2,
+            _ => 1,
+        }
+    }
+
+    /// "High byte first."
+    fn account(&self, bytes: &[u8]) -> Account {
+        number(bytes) as Account
+    }
+
     /// "A file record is cut off by the end of the file": whether one is, by the bytes left after the
     /// last whole one.
     fn is_cut_off(&self, rest: &[u8]) -> bool {
@@ -22,6 +45,11 @@ pub trait FileRules: Sync {
         matches!(answer, Answer::Accepted(_))
     }
 
+    /// 10, 02-5: "reports need lists of 1,024, else 10": whether a list of this length is lent in vain.
+    fn refuses_list(&self, length: usize) -> bool {
+        length != ACCOUNTS
+    }
+
     /// "The lists report the book where the run ended"; none stands for untouched lists.
     fn lists(&self, played: &Played) -> Option<Lists> {
         Some(played.report())
@@ -30,6 +58,11 @@ pub trait FileRules: Sync {
     /// "Only the first 65,536 bytes count, size byte included."
     fn bench_limit(&self) -> usize {
         BENCH_LIMIT
+    }
+
+    /// 02-5: the accounts are "0 to 1,023": those that a close looks through.
+    fn printed_accounts(&self) -> Range<Account> {
+        0..ACCOUNTS as Account
     }
 
     /// "Where either is nonzero."

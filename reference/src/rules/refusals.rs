@@ -1,14 +1,14 @@
 //! Refusals, in checking order.
 
-use crate::call::{Call, Market};
+use crate::call::{Account, Call, Market, Trade};
 use crate::history::{Day, History};
 use crate::refusal::{Check, CHECKING_ORDER};
-use crate::terms::LATEST_TIME;
+use crate::terms::{ACCOUNTS, LATEST_TIME};
 use dayformat::kind::{BLOCK, SIMPLE};
 use std::ops::RangeInclusive;
 
 pub trait RefusalRules: Sync {
-    /// "Refusals, in checking order": 3 to 9, and 11.
+    /// "Refusals, in checking order": 3 to 9, 11 and 12.
     fn checking_order(&self, _call: Call) -> &'static [Check] {
         &CHECKING_ORDER
     }
@@ -82,6 +82,16 @@ pub trait RefusalRules: Sync {
         market.is_two_sided() && market.bid >= market.offer
     }
 
+    /// 12, 02-5: "An account above 1,023".
+    fn is_account(&self, account: Account) -> bool {
+        usize::from(account) < ACCOUNTS
+    }
+
+    /// 12: an account, be it the buyer's or the seller's.
+    fn names_no_account(&self, trade: Trade) -> bool {
+        !self.is_account(trade.buyer) || !self.is_account(trade.seller)
+    }
+
     /// 7: "An account's v would pass 2,000,000."
     fn volume_limit(&self) -> i128 {
         2_000_000
@@ -92,7 +102,12 @@ pub trait RefusalRules: Sync {
         1_200_000
     }
 
-    /// "A refused call returns its number and the same book."
+    /// "A refused call returns its number",
+    fn number(&self, check: Check) -> u8 {
+        check.number()
+    }
+
+    /// "and the same book."
     fn changes_book(&self, refusal: Option<u8>) -> bool {
         refusal.is_none()
     }
