@@ -6,7 +6,7 @@ use dayformat::{tag, Writer};
 
 /// The file with one damage to it.
 pub fn damage(random: &mut Random, file: &[u8]) -> Vec<u8> {
-    match random.below(13) {
+    match random.below(15) {
         0 => truncate(random, file),
         1 => truncate_record(random, file),
         2 | 3 => insert(random, file, unknown_record),
@@ -17,7 +17,8 @@ pub fn damage(random: &mut Random, file: &[u8]) -> Vec<u8> {
         8 => insert(random, file, random_bytes),
         9 => insert_many(random, file),
         10 => damage_one_of(random, file, tag::LENGTH_OF_DAY),
-        _ => damage_one_of(random, file, tag::TIMED_QUOTE),
+        11 | 12 => damage_one_of(random, file, tag::TIMED_QUOTE),
+        _ => damage_one_of(random, file, tag::TWO_BYTE_TRADE),
     }
 }
 
@@ -63,7 +64,7 @@ fn insert_many(random: &mut Random, file: &[u8]) -> Vec<u8> {
 }
 
 fn unknown_record(random: &mut Random) -> Vec<u8> {
-    let tag = random.pick(&[0, 10, 11, 12, 13, 77, 255]);
+    let tag = random.pick(&[0, 11, 12, 13, 77, 255]);
     record(random, tag)
 }
 
@@ -106,7 +107,7 @@ fn change_length(random: &mut Random, file: &[u8]) -> Vec<u8> {
     if !records.is_empty() {
         let at = random.below(records.len() as u32) as usize;
         if let Some(low) = records[at].get_mut(2) {
-            *low = random.pick(&[0, 2, 3, 4, 5, 7, 8, 9, 10, 11, 12, 255]);
+            *low = random.pick(&[0, 2, 3, 4, 5, 7, 8, 9, 10, 11, 12, 13, 14, 255]);
         }
     }
     records.concat()

@@ -1,9 +1,10 @@
 //! What the profiles write their files with: markets, trades and days around a price level.
 
+mod accounts;
 mod quotes;
 
 use crate::random::Random;
-use dayformat::{kind, Writer};
+use dayformat::Writer;
 use reference::terms::{FULL_DAY, SHORT_DAY};
 
 /// The most minutes that the events of one minute may end themselves.
@@ -35,9 +36,6 @@ const REFUSED_LENGTHS: [u16; 6] = [
     FULL_DAY + 1,
     u16::MAX,
 ];
-
-/// Few accounts, so that they meet often, with both ends of the range.
-const ACCOUNTS: [u8; 6] = [0, 3, 7, 9, 254, 255];
 
 impl Generator {
     pub fn new(seed: u64) -> Self {
@@ -98,20 +96,6 @@ impl Generator {
         }
     }
 
-    pub fn account(&mut self) -> u8 {
-        match self.random.chance(95) {
-            true => self.random.pick(&ACCOUNTS),
-            false => self.random.byte(),
-        }
-    }
-
-    /// Two accounts that differ.
-    pub fn two_accounts(&mut self) -> (u8, u8) {
-        let first = self.random.below(6) as usize;
-        let second = (first + 1 + self.random.below(5) as usize) % 6;
-        (ACCOUNTS[first], ACCOUNTS[second])
-    }
-
     /// A price within about 0.25 % of the level.
     pub fn near_price(&mut self) -> u32 {
         let distance = (self.level / 400).max(10);
@@ -121,32 +105,6 @@ impl Generator {
 
     pub fn near_ticked_price(&mut self) -> u32 {
         (self.near_price() / 10 * 10).max(5_000)
-    }
-
-    /// A trade of any kind with values in their fields.
-    pub fn any_trade(&mut self) {
-        let accounts = match self.random.chance(15) {
-            true => (self.account(), self.account()),
-            false => self.two_accounts(),
-        };
-        let accounts = match self.random.chance(8) {
-            true => (accounts.0, accounts.0),
-            false => accounts,
-        };
-        match self.random.below(5) {
-            0 => {
-                let (quantity, price) = (self.random.between(1, 40), self.near_price());
-                self.file.trade(accounts, kind::SPREAD, quantity, price)
-            }
-            1 => {
-                let (quantity, price) = (self.random.between(250, 900), self.near_price());
-                self.file.trade(accounts, kind::BLOCK, quantity, price)
-            }
-            _ => {
-                let (quantity, price) = (self.random.between(1, 40), self.near_ticked_price());
-                self.file.trade(accounts, kind::SIMPLE, quantity, price)
-            }
-        };
     }
 
     /// A few calls of a minute with a market, now and then a halt.

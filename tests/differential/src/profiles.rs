@@ -1,5 +1,6 @@
 //! One profile per theme; the seed chooses which one writes the input.
 
+mod accounts;
 mod days;
 mod files;
 mod lengths;
@@ -10,9 +11,10 @@ mod settlements;
 
 use crate::damage::damage;
 use crate::generator::Generator;
+use dayformat::kind::SIMPLE;
 use reference::terms::SHORT_DAY;
 
-const PROFILES: [fn(&mut Generator); 23] = [
+const PROFILES: [fn(&mut Generator); 25] = [
     markets::busy_days,
     markets::few_valid_minutes,
     markets::half_pennies,
@@ -27,6 +29,8 @@ const PROFILES: [fn(&mut Generator); 23] = [
     midpoints::quiet_last_minutes,
     midpoints::half_cents,
     midpoints::times_of_a_minute,
+    accounts::both_tags,
+    accounts::not_there,
     limits::positions_and_volumes,
     limits::fields,
     days::out_of_order,
@@ -82,5 +86,8 @@ pub fn long_input(seed: u64) -> Vec<u8> {
     }
     generator.file.length_of_day(SHORT_DAY);
     generator.file.timed_quote(0, 0, 0);
+    generator
+        .file
+        .two_byte_trade((1_023, 0), SIMPLE, 1, 200_000);
     generator.input()
 }

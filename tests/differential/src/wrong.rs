@@ -1,6 +1,7 @@
 //! The wrong ledgers: each breaks one rule of the reference and keeps the others. Tests must tell
 //! each from the right one.
 
+mod account_numbers;
 mod accounts;
 mod files;
 mod lengths;
@@ -10,7 +11,9 @@ mod refusals;
 mod rounding;
 mod settlement;
 mod times;
+mod two_byte_trades;
 
+use account_numbers::*;
 use accounts::*;
 use files::*;
 use lengths::*;
@@ -21,6 +24,7 @@ use refusals::*;
 use rounding::*;
 use settlement::*;
 use times::*;
+use two_byte_trades::*;
 
 pub struct WrongLedger {
     pub name: &'static str,
@@ -64,7 +68,7 @@ const fn in_files(name: &'static str, files: &'static dyn FileRules) -> WrongLed
 }
 
 /// A static, so that their rules are compiled here alone.
-pub static ALL: [WrongLedger; 150] = [
+pub static ALL: [WrongLedger; 180] = [
     // Rounding.
     in_calls("tie-up", &TieUp),
     in_calls("tie-away-from-zero", &TieAwayFromZero),
@@ -219,6 +223,53 @@ pub static ALL: [WrongLedger; 150] = [
     in_refusals("refused-call-begins-date", &REFUSED_CALL_BEGINS_DATE),
     in_refusals("wrong-length-begins-date", &WRONG_LENGTH_BEGINS_DATE),
     in_refusals("unknown-begins-date", &UNKNOWN_BEGINS_DATE),
+    // Account numbers.
+    in_refusals("account-1023-refused", &ACCOUNT_1023_REFUSED),
+    in_refusals("account-1024-accepted", &ACCOUNT_1024_ACCEPTED),
+    in_refusals("accounts-above-255-refused", &ACCOUNTS_ABOVE_255_REFUSED),
+    in_refusals("any-account-accepted", &ANY_ACCOUNT_ACCEPTED),
+    in_refusals("only-buyer-checked", &ONLY_BUYER_CHECKED),
+    in_refusals("only-seller-checked", &ONLY_SELLER_CHECKED),
+    in_refusals("account-before-halt", &ACCOUNT_BEFORE_HALT),
+    in_refusals("account-before-field", &ACCOUNT_BEFORE_FIELD),
+    in_refusals("volume-before-account", &VOLUME_BEFORE_ACCOUNT),
+    in_refusals("position-before-account", &POSITION_BEFORE_ACCOUNT),
+    in_refusals("no-account-refused-by-5", &NoAccountRefusedBy5),
+    in_refusals(
+        "trade-of-no-account-takes-effect",
+        &TradeOfNoAccountTakesEffect,
+    ),
+    in_calls("one-volume-of-a-low-byte", &OneVolumeOfALowByte),
+    in_files("low-byte-read", &LOW_BYTE_READ),
+    in_files("account-modulo-1024", &ACCOUNT_MODULO_1024),
+    in_files("low-byte-first", &LowByteFirst),
+    in_files("close-prints-256-accounts", &ClosePrints256Accounts),
+    in_files("reports-256-accounts", &Reports256Accounts),
+    in_files("lists-of-256-needed", &ListsOf256Needed),
+    in_files("tag-1-unknown", &TAG_1_UNKNOWN),
+    in_files("tag-10-unknown", &TAG_10_UNKNOWN),
+    in_files("tag-10-of-one-byte", &TAG_10_OF_ONE_BYTE),
+    in_files("tag-1-of-two-bytes", &TAG_1_OF_TWO_BYTES),
+    // Trades of tag 10.
+    in_refusals("length-after-two-byte-trade", &LENGTH_AFTER_TWO_BYTE_TRADE),
+    in_midpoints(
+        "time-reset-by-two-byte-trade",
+        &TIME_RESET_BY_TWO_BYTE_TRADE,
+    ),
+    in_refusals(
+        "two-byte-trade-accepted-in-halt",
+        &TwoByteTradeAcceptedInHalt,
+    ),
+    in_calls("two-byte-trade-leaves-last", &TWO_BYTE_TRADE_LEAVES_LAST),
+    in_calls("two-byte-block-sets-last", &TWO_BYTE_BLOCK_SETS_LAST),
+    in_calls(
+        "two-byte-trade-not-in-settlement",
+        &TWO_BYTE_TRADE_NOT_IN_SETTLEMENT,
+    ),
+    in_calls(
+        "two-byte-block-in-settlement",
+        &TWO_BYTE_BLOCK_IN_SETTLEMENT,
+    ),
     // Files, printouts and reports.
     in_files("close-prints-both-nonzero", &ClosePrintsBothNonzero),
     in_files("unknown-not-in-places", &UnknownNotInPlaces),

@@ -73,7 +73,7 @@ fn every_wrong_ledger_is_told_apart() {
 
 #[test]
 fn every_refusal_of_a_file_is_met() {
-    let mut files = [0; 12];
+    let mut files = [0; 13];
     for seed in 0..FILES / 4 {
         let printout = bench(&input(seed));
         for (number, files) in files.iter_mut().enumerate() {
@@ -82,7 +82,7 @@ fn every_refusal_of_a_file_is_met() {
     }
     println!("files by refusal number: {files:?}");
     for (number, files) in files.iter().enumerate() {
-        let can_be_met = [1, 3, 4, 5, 6, 7, 8, 9, 11].contains(&number);
+        let can_be_met = [1, 3, 4, 5, 6, 7, 8, 9, 11, 12].contains(&number);
         assert_eq!(*files > 0, can_be_met, "refusal {number}");
     }
 }

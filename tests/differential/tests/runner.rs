@@ -1,5 +1,7 @@
 //! The runner with the reference and wrong ledgers in the place of the program under test.
 
+use differential::records::split;
+use reference::size_and_records;
 use std::path::{Path, PathBuf};
 use std::process::{Command, Output};
 
@@ -59,7 +61,11 @@ fn assert_shrunk(folder: &Path, output: &Output) {
         .map(|entry| entry.expect("an entry is readable").path())
         .collect();
     assert_eq!(saved.len(), 2, "{saved:?}");
-    let length = |path: &PathBuf| std::fs::metadata(path).expect("the file is there").len();
-    let shortest = saved.iter().map(length).min();
-    assert!(shortest < Some(20), "{text}");
+    let records = |path: &PathBuf| {
+        let input = std::fs::read(path).expect("the file is there");
+        let (_, file) = size_and_records(&input);
+        split(file).len()
+    };
+    let fewest = saved.iter().map(records).min();
+    assert!(fewest < Some(4), "{text}");
 }

@@ -10,7 +10,7 @@ pub fn random_bytes(generator: &mut Generator) {
     let small = random.chance(70);
     for _ in 0..random.below(400) {
         let byte = match small && random.chance(70) {
-            true => random.below(11) as u8,
+            true => random.below(14) as u8,
             false => random.byte(),
         };
         generator.file.bytes.push(byte);

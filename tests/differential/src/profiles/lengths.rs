@@ -31,12 +31,12 @@ fn given_length(generator: &mut Generator) -> usize {
 
 /// A record that is refused or unknown.
 fn begin_nothing(generator: &mut Generator, halted: bool) {
-    match generator.random.below(10) {
+    match generator.random.below(11) {
         0 | 1 => generator.refused_length_of_day(),
         2 => generator.crossed_quote(),
         3 => {
             let accounts = generator.two_accounts();
-            generator.file.trade(accounts, 0, 0, 0);
+            generator.trade(accounts, 0, 0, 0);
         }
         4 => {
             generator.file.minute_ends(1, 1);
@@ -56,6 +56,7 @@ fn begin_nothing(generator: &mut Generator, halted: bool) {
         8 => {
             generator.file.timed_quote(END_OF_MINUTE, 0, 0);
         }
+        9 => generator.trade_of_no_account(),
         _ => wrong_length_record(generator),
     }
 }
@@ -84,7 +85,7 @@ fn first_call(generator: &mut Generator, halted: bool) -> usize {
         3 => generator.any_trade(),
         4 => {
             let accounts = generator.two_accounts();
-            generator.file.trade(accounts, BLOCK, 250, 200_000);
+            generator.trade(accounts, BLOCK, 250, 200_000);
         }
         5 => {
             generator.file.timed_quote(0, 0, 0);

@@ -2,18 +2,20 @@
 
 use crate::generator::Generator;
 use dayformat::kind::{BLOCK, SIMPLE, SPREAD};
+use reference::call::Account;
 
-const LARGEST: u32 = 100_000;
+pub const LARGEST: u32 = 100_000;
 
 /// Positions and volumes filled to their limits, over one or two days.
 pub fn positions_and_volumes(generator: &mut Generator) {
     for _ in 0..generator.random.between(1, 3) {
         let length = generator.start_date();
         for _ in 0..generator.random.between(1, 3) {
-            match generator.random.below(4) {
+            match generator.random.below(5) {
                 0 => fill_position(generator),
                 1 => fill_volume(generator),
                 2 => fill_volume_with_oneself(generator),
+                3 => fill_volumes_of_one_low_byte(generator),
                 _ => pass_both(generator),
             }
         }
@@ -22,15 +24,15 @@ pub fn positions_and_volumes(generator: &mut Generator) {
     }
 }
 
-fn trades(generator: &mut Generator, accounts: (u8, u8), count: u32, quantity: u32) {
+pub fn trades(generator: &mut Generator, accounts: (Account, Account), count: u32, quantity: u32) {
     let price = generator.near_ticked_price();
     for _ in 0..count {
-        generator.file.trade(accounts, SIMPLE, quantity, price);
+        generator.trade(accounts, SIMPLE, quantity, price);
     }
 }
 
 /// The last 100,000 contracts in parts, with one contract too many tried on the way.
-fn fill_exactly(generator: &mut Generator, accounts: (u8, u8)) {
+fn fill_exactly(generator: &mut Generator, accounts: (Account, Account)) {
     let part = generator.random.between(1, LARGEST - 2);
     trades(generator, accounts, 1, LARGEST - part);
     trades(generator, accounts, 1, part + 1);
@@ -72,10 +74,19 @@ fn fill_volume_with_oneself(generator: &mut Generator) {
     trades(generator, (other, account), 1, 1);
 }
 
+/// To 2,000,000 each, with one contract too many.
+fn fill_volumes_of_one_low_byte(generator: &mut Generator) {
+    let low = generator.random.pick(&[0, 3, 255]);
+    for account in [low, low + 256, low + 768] {
+        trades(generator, (account, account), 10, LARGEST);
+        trades(generator, (account, account), 1, 1);
+    }
+}
+
 /// One trade past the position of one account and the volume of the same or the other.
 fn pass_both(generator: &mut Generator) {
     let (long, short) = generator.two_accounts();
-    let third = generator.random.between(20, 90) as u8;
+    let third = (generator.random.between(20, 90) + 256 * generator.random.below(4)) as Account;
     trades(generator, (long, short), 12, LARGEST);
     trades(generator, (third, third), 10, LARGEST);
     match generator.random.below(3) {
@@ -128,7 +139,7 @@ fn any_field(generator: &mut Generator) {
                 u32::MAX,
             ]);
             let price = edge_price(generator);
-            generator.file.trade(accounts, kind, quantity, price);
+            generator.trade(accounts, kind, quantity, price);
         }
         2 | 3 => {
             let (bid, offer) = (edge_price(generator), edge_price(generator));

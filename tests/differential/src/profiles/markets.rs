@@ -88,12 +88,12 @@ fn half_penny_fix(generator: &mut Generator, price: u32) {
     let accounts = generator.two_accounts();
     let by_trade = price.is_multiple_of(10) && generator.random.chance(50);
     if by_trade {
-        generator.file.trade(accounts, SIMPLE, 2, price);
+        generator.trade(accounts, SIMPLE, 2, price);
     }
     generator.file.minute_ends(1, 1_000_000);
     generator.file.fix(if by_trade { 0 } else { price });
     if generator.random.chance(50) {
-        generator.file.trade(accounts, SPREAD, 3, price);
+        generator.trade(accounts, SPREAD, 3, price);
     }
     generator.file.close();
 }
@@ -123,7 +123,7 @@ fn spread_edge(generator: &mut Generator) -> usize {
     let kind = generator.random.pick(&[SIMPLE, SPREAD, BLOCK]);
     generator.quote(bid, offer);
     if generator.random.chance(70) {
-        generator.file.trade(accounts, kind, 250, last);
+        generator.trade(accounts, kind, 250, last);
     }
     let index = generator.random.between(bid, offer);
     generator.file.minute_ends(1, index);
@@ -164,9 +164,7 @@ fn trades_of_each_kind(generator: &mut Generator) -> usize {
             SIMPLE => 0,
             _ => generator.random.below(10),
         };
-        generator
-            .file
-            .trade(accounts, kind, 250, price + off_the_tick);
+        generator.trade(accounts, kind, 250, price + off_the_tick);
     }
     0
 }

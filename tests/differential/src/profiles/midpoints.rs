@@ -85,7 +85,7 @@ fn other_trade(generator: &mut Generator) {
         generator.random.pick(&[SPREAD, BLOCK]),
         generator.near_price(),
     );
-    generator.file.trade(accounts, kind, 250, price);
+    generator.trade(accounts, kind, 250, price);
 }
 
 /// Mostly without a set price, then with one.
@@ -174,7 +174,7 @@ pub fn times_of_a_minute(generator: &mut Generator) {
 
 fn times(generator: &mut Generator) {
     for _ in 0..generator.random.below(6) {
-        match generator.random.below(12) {
+        match generator.random.below(13) {
             0 => generator.any_quote(),
             1 => {
                 generator.file.resume();
@@ -184,6 +184,7 @@ fn times(generator: &mut Generator) {
                 one_millisecond_back(generator);
             }
             3 | 4 => one_millisecond_back(generator),
+            5 => other_trade(generator),
             _ => {
                 let (bid, offer) = market_or_not(generator);
                 generator.timed_quote(bid, offer);

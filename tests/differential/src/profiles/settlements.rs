@@ -32,14 +32,10 @@ fn tied_trades(generator: &mut Generator) {
     let accounts = generator.two_accounts();
     let price = generator.near_ticked_price().min(49_999_980);
     let first = generator.random.pick(&[1, 3]);
-    generator.file.trade(accounts, SIMPLE, first, price);
-    generator
-        .file
-        .trade(accounts, SIMPLE, 4 - first, price + 10);
+    generator.trade(accounts, SIMPLE, first, price);
+    generator.trade(accounts, SIMPLE, 4 - first, price + 10);
     if generator.random.chance(20) {
-        generator
-            .file
-            .trade((accounts.0, accounts.0), SIMPLE, 4, price);
+        generator.trade((accounts.0, accounts.0), SIMPLE, 4, price);
     }
 }
 
@@ -113,19 +109,13 @@ pub fn round_trips(generator: &mut Generator) {
         let length = generator.start_date();
         let (first, second) = generator.two_accounts();
         let quantity = generator.random.between(1, 9);
-        generator
-            .file
-            .trade((first, second), SIMPLE, quantity, price);
+        generator.trade((first, second), SIMPLE, quantity, price);
         if generator.random.chance(60) {
-            generator
-                .file
-                .trade((second, first), SIMPLE, quantity, price);
+            generator.trade((second, first), SIMPLE, quantity, price);
         }
         if generator.random.chance(40) {
             let other = generator.near_ticked_price();
-            generator
-                .file
-                .trade((first, first), SIMPLE, quantity, other);
+            generator.trade((first, first), SIMPLE, quantity, other);
         }
         if generator.random.chance(30) {
             generator.tight_quote();

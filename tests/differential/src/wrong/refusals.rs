@@ -34,6 +34,15 @@ pub const fn moved(mut order: Order, check: Check, before: Check) -> Order {
     order
 }
 
+/// Another order for every call.
+pub struct CheckMoved(pub &'static Order);
+
+impl RefusalRules for CheckMoved {
+    fn checking_order(&self, _call: Call) -> &'static [Check] {
+        self.0
+    }
+}
+
 pub struct PositionBeforeVolume;
 
 impl RefusalRules for PositionBeforeVolume {

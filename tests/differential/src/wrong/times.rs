@@ -1,6 +1,6 @@
 //! Wrong times of quotes: which is the latest one, and which are refused.
 
-use crate::wrong::refusals::{moved, Order};
+use crate::wrong::refusals::{moved, CheckMoved};
 use reference::call::{Call, Market};
 use reference::file::Record;
 use reference::history::Day;
@@ -40,7 +40,7 @@ impl MidpointRules for CloseKeepsTime {
 }
 
 /// Such a call sets the time to 0 too.
-pub struct TimeResetBy(fn(&Call) -> bool);
+pub struct TimeResetBy(pub fn(&Call) -> bool);
 
 impl MidpointRules for TimeResetBy {
     fn latest_time(&self, days: &[Day], place: usize) -> u16 {
@@ -120,15 +120,6 @@ pub struct OneMillisecondBackAccepted;
 impl RefusalRules for OneMillisecondBackAccepted {
     fn time_runs_back(&self, time: u16, latest: u16) -> bool {
         time + 1 < latest
-    }
-}
-
-/// A check moved up to just before another.
-pub struct CheckMoved(&'static Order);
-
-impl RefusalRules for CheckMoved {
-    fn checking_order(&self, _call: Call) -> &'static [Check] {
-        self.0
     }
 }
 
