@@ -51,7 +51,11 @@ pub fn size_and_records(input: &[u8]) -> (u8, &[u8]) {
 
 /// The run offered to C: accepted records, and the lists unless they stay untouched.
 pub fn c_run(size: u8, file: &[u8]) -> (u64, Option<Lists>) {
-    let played = play(size, file, Rules::RIGHT);
+    c_run_of(play(size, file, Rules::RIGHT).as_ref())
+}
+
+/// What it gives of a run, none when the size is refused.
+pub fn c_run_of(played: Option<&Played>) -> (u64, Option<Lists>) {
     played.map_or((0, None), |played| played.c_run([ACCOUNTS; 2]))
 }
 

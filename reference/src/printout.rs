@@ -1,10 +1,10 @@
 //! What the programs print.
 
 use crate::accounts::{position, ClosedDays};
+use crate::c_run_of;
 use crate::call::{Account, Call};
 use crate::play::{Answer, Played};
 use crate::settlement::Settlement;
-use crate::terms::ACCOUNTS;
 
 /// What the bench program prints of a run, none when the size is refused.
 pub fn bench_text(played: Option<&Played>) -> String {
@@ -18,8 +18,7 @@ pub fn bench_text(played: Option<&Played>) -> String {
 
 /// What a program that links the C library prints of it.
 pub fn library_text(played: Option<&Played>) -> String {
-    let of_run = |played: &Played| played.c_run([ACCOUNTS; 2]);
-    let (accepted, lists) = played.map_or((0, None), of_run);
+    let (accepted, lists) = c_run_of(played);
     let mut text = format!("accepted {accepted}\n");
     match lists {
         None => text.push_str("untouched\n"),

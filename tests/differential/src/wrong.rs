@@ -68,7 +68,7 @@ const fn in_files(name: &'static str, files: &'static dyn FileRules) -> WrongLed
 }
 
 /// A static, so that their rules are compiled here alone.
-pub static ALL: [WrongLedger; 180] = [
+pub static ALL: [WrongLedger; 181] = [
     // Rounding.
     in_calls("tie-up", &TieUp),
     in_calls("tie-away-from-zero", &TieAwayFromZero),
@@ -241,6 +241,7 @@ pub static ALL: [WrongLedger; 180] = [
     ),
     in_calls("one-volume-of-a-low-byte", &OneVolumeOfALowByte),
     in_files("low-byte-read", &LOW_BYTE_READ),
+    in_files("low-byte-below-1024", &LOW_BYTE_BELOW_1024),
     in_files("account-modulo-1024", &ACCOUNT_MODULO_1024),
     in_files("low-byte-first", &LowByteFirst),
     in_files("close-prints-256-accounts", &ClosePrints256Accounts),

@@ -2,10 +2,12 @@
 
 use differential::profiles::{input, long_input};
 use differential::wrong::{WrongLedger, ALL};
-use reference::printout::{bench_text, library_text};
+use reference::printout::bench_text;
 use reference::rules::{CallRules, Rules};
 use reference::settlement::{settlement_price, PriceRule};
-use reference::{bench, bench_under, library_printout, library_printout_under, run};
+use reference::{
+    bench, bench_under, c_run_of, library_printout, library_printout_under, run, Lists,
+};
 
 const FILES: u64 = 1_000;
 /// A ledger that every second file has told apart so often is played no further.
@@ -18,14 +20,17 @@ struct Bites {
     first: Option<u64>,
 }
 
-fn differs(wrong: &WrongLedger, input: &[u8], bench: &str, library: &str) -> bool {
+/// Accepted records, and the lists unless they stay untouched: what a library's printout tells.
+type CRun = (u64, Option<Lists>);
+
+fn differs(wrong: &WrongLedger, input: &[u8], bench: &str, c_run: &CRun) -> bool {
     let played = run(wrong.rules, input);
     let played = played.as_ref();
     let bench_differs = match input.len() <= wrong.rules.files.bench_limit() {
         true => bench_text(played) != bench,
         false => bench_under(wrong.rules, input) != bench,
     };
-    bench_differs || library_text(played) != library
+    bench_differs || c_run_of(played) != *c_run
 }
 
 /// The bites of every second seed, for each wrong ledger.
@@ -33,9 +38,10 @@ fn bites(from: u64) -> Vec<Bites> {
     let mut bites = vec![Bites::default(); ALL.len()];
     for seed in (from..FILES).step_by(2) {
         let input = input(seed);
-        let (bench, library) = (bench(&input), library_printout(&input));
+        let played = run(Rules::RIGHT, &input);
+        let (bench, c_run) = (bench(&input), c_run_of(played.as_ref()));
         for (wrong, bites) in ALL.iter().zip(&mut bites) {
-            if bites.files < ENOUGH && differs(wrong, &input, &bench, &library) {
+            if bites.files < ENOUGH && differs(wrong, &input, &bench, &c_run) {
                 bites.files += 1;
                 bites.first.get_or_insert(seed);
             }

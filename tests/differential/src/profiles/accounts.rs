@@ -22,10 +22,11 @@ pub fn both_tags(generator: &mut Generator) {
 fn trades_among_quotes(generator: &mut Generator) {
     for _ in 0..generator.random.below(16) {
         match generator.random.below(12) {
-            0 => generator.tight_quote(),
-            1 => with_length_of_other_tag(generator),
-            2 => generator.trade_of_no_account(),
-            3..=5 => {
+            0 => trade_between_times(generator),
+            1 => trade_before_length(generator),
+            2 => with_length_of_other_tag(generator),
+            3 => generator.trade_of_no_account(),
+            4 | 5 => {
                 let accounts = (generator.any_account(), generator.any_account());
                 generator.trade_of_any_kind(accounts);
             }
@@ -36,6 +37,24 @@ fn trades_among_quotes(generator: &mut Generator) {
             _ => generator.any_trade(),
         }
     }
+}
+
+/// A trade, and a quote that runs back by a millisecond behind the one before the trade.
+fn trade_between_times(generator: &mut Generator) {
+    let bid = generator.near_ticked_price();
+    let time = generator.later_time(20_000);
+    generator.file.timed_quote(time, bid, bid + 10);
+    generator.any_trade();
+    generator
+        .file
+        .timed_quote(time.saturating_sub(1), bid, bid + 20);
+}
+
+/// A length of day that comes too late, by the trade if by nothing before it.
+fn trade_before_length(generator: &mut Generator) {
+    let accounts = generator.two_accounts();
+    generator.trade_of_any_kind(accounts);
+    generator.any_length_of_day();
 }
 
 fn of_one_low_byte(generator: &mut Generator) -> (Account, Account) {

@@ -27,13 +27,14 @@ fn some_trades(generator: &mut Generator) {
     }
 }
 
-/// Four contracts one or three to one at neighbouring ticks: the average is a half cent.
+/// Four contracts one or three to one at neighbouring ticks: the average is a half cent. Three
+/// contracts two to one: it is a sixth of a cent below one.
 fn tied_trades(generator: &mut Generator) {
     let accounts = generator.two_accounts();
     let price = generator.near_ticked_price().min(49_999_980);
-    let first = generator.random.pick(&[1, 3]);
+    let (first, second) = generator.random.pick(&[(1, 3), (3, 1), (2, 1)]);
     generator.trade(accounts, SIMPLE, first, price);
-    generator.trade(accounts, SIMPLE, 4 - first, price + 10);
+    generator.trade(accounts, SIMPLE, second, price + 10);
     if generator.random.chance(20) {
         generator.trade((accounts.0, accounts.0), SIMPLE, 4, price);
     }

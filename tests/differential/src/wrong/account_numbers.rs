@@ -83,6 +83,10 @@ impl FileRules for AccountReadAs {
 }
 
 pub static LOW_BYTE_READ: AccountReadAs = AccountReadAs(|account| account % 256);
+pub static LOW_BYTE_BELOW_1024: AccountReadAs = AccountReadAs(|account| match account {
+    0..=1_023 => account % 256,
+    _ => account,
+});
 pub static ACCOUNT_MODULO_1024: AccountReadAs = AccountReadAs(|account| account % 1_024);
 
 pub struct LowByteFirst;
