@@ -95,7 +95,7 @@ impl Asked<'_> {
             (Check::Crossed, call) => call
                 .quoted()
                 .is_some_and(|market| self.rules.refusals.is_crossed(market)),
-            (Check::Account, Call::Trade(trade)) => self.rules.refusals.names_no_account(*trade),
+            (Check::Account, Call::Trade(trade)) => self.rules.refusals.refuses_account(*trade),
             (Check::BuyerVolume, Call::Trade(trade)) => self.passes_volume(trade, trade.buyer),
             (Check::SellerVolume, Call::Trade(trade)) => self.passes_volume(trade, trade.seller),
             (Check::BuyerPosition, Call::Trade(trade)) => self.passes_position(trade, trade.buyer),
@@ -175,14 +175,14 @@ impl Asked<'_> {
     fn passes_volume(&self, trade: &Trade, account: Account) -> bool {
         let present = self.rules.calls.volume(self.history, account);
         let after = present + self.rules.calls.contracts(*trade, account);
-        after > self.rules.refusals.volume_limit()
+        after > self.rules.refusals.volume_limit(account)
     }
 
     fn passes_position(&self, trade: &Trade, account: Account) -> bool {
         let days = self.history.days.len();
         let present = position(self.history, account, days, self.rules.calls);
         let after = present + self.rules.calls.signed_quantity(*trade, account);
-        after.abs() > self.rules.refusals.position_limit()
+        after.abs() > self.rules.refusals.position_limit(account)
     }
 
     fn has_no_price(&self, set_price: u32) -> bool {

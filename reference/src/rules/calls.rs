@@ -103,7 +103,7 @@ pub trait CallRules: Sync {
         trade.bought(account) + trade.sold(account)
     }
 
-    /// An account's v. 02-5: "The book's limits hold for each of 1,024 accounts."
+    /// "Per account": the v that a trade adds to.
     fn volume(&self, history: &History, account: Account) -> i128 {
         volume(history, account, self)
     }

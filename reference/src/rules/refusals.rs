@@ -82,23 +82,23 @@ pub trait RefusalRules: Sync {
         market.is_two_sided() && market.bid >= market.offer
     }
 
-    /// 12, 02-5: "An account above 1,023".
+    /// 02-5: "Accounts become two-byte numbers, 0 to 1,023."
     fn is_account(&self, account: Account) -> bool {
         usize::from(account) < ACCOUNTS
     }
 
-    /// 12: an account, be it the buyer's or the seller's.
-    fn names_no_account(&self, trade: Trade) -> bool {
+    /// 12, 02-5: "An account above 1,023", be it the buyer's or the seller's.
+    fn refuses_account(&self, trade: Trade) -> bool {
         !self.is_account(trade.buyer) || !self.is_account(trade.seller)
     }
 
-    /// 7: "An account's v would pass 2,000,000."
-    fn volume_limit(&self) -> i128 {
+    /// 7: "An account's v would pass 2,000,000"; 02-5: "The book's limits hold for each of 1,024 accounts."
+    fn volume_limit(&self, _account: Account) -> i128 {
         2_000_000
     }
 
     /// 8: "A position would pass ±1,200,000."
-    fn position_limit(&self) -> i128 {
+    fn position_limit(&self, _account: Account) -> i128 {
         1_200_000
     }
 

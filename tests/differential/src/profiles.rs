@@ -30,7 +30,7 @@ const PROFILES: [fn(&mut Generator); 25] = [
     midpoints::half_cents,
     midpoints::times_of_a_minute,
     accounts::both_tags,
-    accounts::not_there,
+    accounts::refused_accounts,
     limits::positions_and_volumes,
     limits::fields,
     days::out_of_order,

@@ -68,7 +68,7 @@ const fn in_files(name: &'static str, files: &'static dyn FileRules) -> WrongLed
 }
 
 /// A static, so that their rules are compiled here alone.
-pub static ALL: [WrongLedger; 181] = [
+pub static ALL: [WrongLedger; 186] = [
     // Rounding.
     in_calls("tie-up", &TieUp),
     in_calls("tie-away-from-zero", &TieAwayFromZero),
@@ -233,12 +233,11 @@ pub static ALL: [WrongLedger; 181] = [
     in_refusals("account-before-halt", &ACCOUNT_BEFORE_HALT),
     in_refusals("account-before-field", &ACCOUNT_BEFORE_FIELD),
     in_refusals("volume-before-account", &VOLUME_BEFORE_ACCOUNT),
-    in_refusals("position-before-account", &POSITION_BEFORE_ACCOUNT),
-    in_refusals("no-account-refused-by-5", &NoAccountRefusedBy5),
-    in_refusals(
-        "trade-of-no-account-takes-effect",
-        &TradeOfNoAccountTakesEffect,
-    ),
+    in_refusals("position-before-account", &PositionBeforeAccount),
+    in_refusals("refused-account-given-5", &RefusedAccountGiven5),
+    in_refusals("refused-account-takes-effect", &RefusedAccountTakesEffect),
+    in_refusals("volume-limit-above-255", &VOLUME_LIMIT_ABOVE_255),
+    in_refusals("position-limit-above-255", &POSITION_LIMIT_ABOVE_255),
     in_calls("one-volume-of-a-low-byte", &OneVolumeOfALowByte),
     in_files("low-byte-read", &LOW_BYTE_READ),
     in_files("low-byte-below-1024", &LOW_BYTE_BELOW_1024),
@@ -271,6 +270,9 @@ pub static ALL: [WrongLedger; 181] = [
         "two-byte-block-in-settlement",
         &TWO_BYTE_BLOCK_IN_SETTLEMENT,
     ),
+    in_calls("two-byte-trade-leaves-cost", &TwoByteTradeLeavesCost),
+    in_calls("two-byte-trade-leaves-volume", &TwoByteTradeLeavesVolume),
+    in_files("two-byte-trade-not-counted", &TwoByteTradeNotCounted),
     // Files, printouts and reports.
     in_files("close-prints-both-nonzero", &ClosePrintsBothNonzero),
     in_files("unknown-not-in-places", &UnknownNotInPlaces),

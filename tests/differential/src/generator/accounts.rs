@@ -11,7 +11,7 @@ const NAMED: [Account; 8] = [0, 3, 7, 255, 256, 259, 1_022, 1_023];
 /// The first of them have one byte.
 const OF_ONE_BYTE: usize = 4;
 
-/// No accounts: beside the last one, at the end of two bytes, and with the low byte or the low ten bits of
+/// Beside the last one, at the end of two bytes, and with the low byte or the low ten bits of
 /// one that is named.
 const REFUSED: [Account; 6] = [1_024, 1_027, 1_279, 1_283, 2_047, u16::MAX];
 
@@ -44,7 +44,7 @@ impl Generator {
         self.random.pick(&REFUSED)
     }
 
-    /// Two accounts of which one isn't there, or neither.
+    /// Two accounts of which one is refused, or both.
     pub fn refused_accounts(&mut self) -> (Account, Account) {
         let (refused, other) = (self.refused_account(), self.account());
         match self.random.below(5) {
@@ -63,7 +63,7 @@ impl Generator {
         };
     }
 
-    /// A trade of any kind with values in their fields, now and then of an account that isn't there.
+    /// A trade of any kind with values in their fields, now and then of a refused account.
     pub fn any_trade(&mut self) {
         let accounts = match self.random.below(100) {
             0..=13 => (self.account(), self.account()),
@@ -77,7 +77,7 @@ impl Generator {
         self.trade_of_any_kind(accounts);
     }
 
-    pub fn trade_of_no_account(&mut self) {
+    pub fn trade_of_refused_account(&mut self) {
         let accounts = self.refused_accounts();
         self.trade_of_any_kind(accounts);
     }

@@ -1,4 +1,4 @@
-//! Accounts of both tags, and accounts that aren't there beside the other refusals of a trade.
+//! Accounts of both tags, and refused accounts beside the other refusals of a trade.
 
 use crate::generator::Generator;
 use crate::profiles::limits::{trades, LARGEST};
@@ -25,7 +25,7 @@ fn trades_among_quotes(generator: &mut Generator) {
             0 => trade_between_times(generator),
             1 => trade_before_length(generator),
             2 => with_length_of_other_tag(generator),
-            3 => generator.trade_of_no_account(),
+            3 => generator.trade_of_refused_account(),
             4 | 5 => {
                 let accounts = (generator.any_account(), generator.any_account());
                 generator.trade_of_any_kind(accounts);
@@ -81,7 +81,7 @@ fn with_length_of_other_tag(generator: &mut Generator) {
 }
 
 /// Refusal 12 by itself and beside 4, 5, 7 and 8.
-pub fn not_there(generator: &mut Generator) {
+pub fn refused_accounts(generator: &mut Generator) {
     for _ in 0..generator.random.between(1, 3) {
         let length = generator.start_date();
         generator.file.resume();
@@ -101,18 +101,18 @@ fn refused_trades(generator: &mut Generator) {
         match generator.random.below(6) {
             0 => {
                 generator.file.halt();
-                generator.trade_of_no_account();
+                generator.trade_of_refused_account();
                 outside_field(generator);
                 generator.file.resume();
             }
             1 | 2 => outside_field(generator),
             3 => generator.any_trade(),
-            _ => generator.trade_of_no_account(),
+            _ => generator.trade_of_refused_account(),
         }
     }
 }
 
-/// A trade of an account that isn't there, with another value outside its field.
+/// A trade of a refused account with another value outside its field.
 fn outside_field(generator: &mut Generator) {
     let accounts = generator.refused_accounts();
     let price = generator.near_ticked_price();
@@ -127,7 +127,7 @@ fn outside_field(generator: &mut Generator) {
     generator.trade(accounts, kind, quantity, price);
 }
 
-/// Accounts at their limits that trade with each other and with one that isn't there.
+/// Accounts at their limits that trade with each other and with a refused one.
 fn at_limits(generator: &mut Generator) {
     let (long, short) = generator.two_accounts();
     let full = generator.any_account();

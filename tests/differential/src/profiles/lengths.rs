@@ -56,7 +56,7 @@ fn begin_nothing(generator: &mut Generator, halted: bool) {
         8 => {
             generator.file.timed_quote(END_OF_MINUTE, 0, 0);
         }
-        9 => generator.trade_of_no_account(),
+        9 => generator.trade_of_refused_account(),
         _ => wrong_length_record(generator),
     }
 }

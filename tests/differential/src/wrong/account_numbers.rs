@@ -2,7 +2,7 @@
 
 use crate::wrong::refusals::{moved, CheckMoved, Order};
 use dayformat::tag;
-use reference::call::{Account, Trade};
+use reference::call::{Account, Call, Trade};
 use reference::history::History;
 use reference::play::Played;
 use reference::refusal::{Check, ACCOUNT, CHECKING_ORDER, FIELD};
@@ -13,6 +13,10 @@ use std::ops::Range;
 
 /// The accounts of one byte.
 const OF_ONE_BYTE: usize = 256;
+
+fn is_of_one_byte(account: Account) -> bool {
+    usize::from(account) < OF_ONE_BYTE
+}
 
 /// It has so many accounts.
 pub struct Accounts(usize);
@@ -32,7 +36,7 @@ pub static ANY_ACCOUNT_ACCEPTED: Accounts = Accounts(1 << 16);
 pub struct AccountChecked(fn(Trade) -> Account);
 
 impl RefusalRules for AccountChecked {
-    fn names_no_account(&self, trade: Trade) -> bool {
+    fn refuses_account(&self, trade: Trade) -> bool {
         !self.is_account(self.0(trade))
     }
 }
@@ -47,15 +51,60 @@ pub static ACCOUNT_BEFORE_FIELD: CheckMoved =
 
 const BUYER_VOLUME_FIRST: Order = moved(CHECKING_ORDER, Check::BuyerVolume, Check::Account);
 const VOLUMES_FIRST: Order = moved(BUYER_VOLUME_FIRST, Check::SellerVolume, Check::Account);
-const BUYER_POSITION_FIRST: Order = moved(VOLUMES_FIRST, Check::BuyerPosition, Check::Account);
-const POSITIONS_FIRST: Order = moved(BUYER_POSITION_FIRST, Check::SellerPosition, Check::Account);
-
 pub static VOLUME_BEFORE_ACCOUNT: CheckMoved = CheckMoved(&VOLUMES_FIRST);
-pub static POSITION_BEFORE_ACCOUNT: CheckMoved = CheckMoved(&POSITIONS_FIRST);
 
-pub struct NoAccountRefusedBy5;
+/// Where it refuses an account, it tests the position of the other one first.
+pub struct PositionBeforeAccount;
 
-impl RefusalRules for NoAccountRefusedBy5 {
+impl RefusalRules for PositionBeforeAccount {
+    fn checking_order(&self, call: Call) -> &'static [Check] {
+        match call {
+            Call::Trade(trade) if self.refuses_account(trade) => &[
+                Check::Halt,
+                Check::Field,
+                Check::BuyerPosition,
+                Check::SellerPosition,
+                Check::Account,
+            ],
+            _ => RightLedger.checking_order(call),
+        }
+    }
+}
+
+/// The limits of accounts above 255 are one less.
+pub struct LimitsAbove255 {
+    volume: i128,
+    position: i128,
+}
+
+pub static VOLUME_LIMIT_ABOVE_255: LimitsAbove255 = LimitsAbove255 {
+    volume: 1_999_999,
+    position: 1_200_000,
+};
+pub static POSITION_LIMIT_ABOVE_255: LimitsAbove255 = LimitsAbove255 {
+    volume: 2_000_000,
+    position: 1_199_999,
+};
+
+impl RefusalRules for LimitsAbove255 {
+    fn volume_limit(&self, account: Account) -> i128 {
+        match is_of_one_byte(account) {
+            true => RightLedger.volume_limit(account),
+            false => self.volume,
+        }
+    }
+
+    fn position_limit(&self, account: Account) -> i128 {
+        match is_of_one_byte(account) {
+            true => RightLedger.position_limit(account),
+            false => self.position,
+        }
+    }
+}
+
+pub struct RefusedAccountGiven5;
+
+impl RefusalRules for RefusedAccountGiven5 {
     fn number(&self, check: Check) -> u8 {
         match check {
             Check::Account => FIELD,
@@ -64,10 +113,10 @@ impl RefusalRules for NoAccountRefusedBy5 {
     }
 }
 
-/// A trade of an account that isn't there moves the other one.
-pub struct TradeOfNoAccountTakesEffect;
+/// The trade moves the other account.
+pub struct RefusedAccountTakesEffect;
 
-impl RefusalRules for TradeOfNoAccountTakesEffect {
+impl RefusalRules for RefusedAccountTakesEffect {
     fn changes_book(&self, refusal: Option<u8>) -> bool {
         matches!(refusal, None | Some(ACCOUNT))
     }

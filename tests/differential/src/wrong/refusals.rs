@@ -1,7 +1,7 @@
 //! Wrong refusals: their order, their limits, and what a refused call does.
 
 use dayformat::kind::{BLOCK, SPREAD};
-use reference::call::{Call, Market};
+use reference::call::{Account, Call, Market};
 use reference::history::Day;
 use reference::refusal::{Check, CHECKING_ORDER, POSITION, VOLUME};
 use reference::rules::{CallRules, RefusalRules, RightLedger};
@@ -127,16 +127,16 @@ impl RefusalRules for MinuteLimitOneMore {
 pub struct VolumeLimitOneLess;
 
 impl RefusalRules for VolumeLimitOneLess {
-    fn volume_limit(&self) -> i128 {
-        RightLedger.volume_limit() - 1
+    fn volume_limit(&self, account: Account) -> i128 {
+        RightLedger.volume_limit(account) - 1
     }
 }
 
 pub struct PositionLimitOneLess;
 
 impl RefusalRules for PositionLimitOneLess {
-    fn position_limit(&self) -> i128 {
-        RightLedger.position_limit() - 1
+    fn position_limit(&self, account: Account) -> i128 {
+        RightLedger.position_limit(account) - 1
     }
 }
 

@@ -3,8 +3,11 @@
 use crate::wrong::lengths::LengthAfter;
 use crate::wrong::times::TimeResetBy;
 use dayformat::tag;
-use reference::call::{Call, Trade};
-use reference::rules::{CallRules, RefusalRules, RightLedger};
+use reference::accounts::ClosedDays;
+use reference::call::{Account, Call, Trade};
+use reference::history::AccountTrade;
+use reference::play::Answer;
+use reference::rules::{CallRules, FileRules, RefusalRules, RightLedger};
 
 fn is_two_byte(trade: Trade) -> bool {
     trade.tag == tag::TWO_BYTE_TRADE
@@ -54,3 +57,37 @@ impl CallRules for TwoByteSettlement {
 
 pub static TWO_BYTE_TRADE_NOT_IN_SETTLEMENT: TwoByteSettlement = TwoByteSettlement(|_| false);
 pub static TWO_BYTE_BLOCK_IN_SETTLEMENT: TwoByteSettlement = TwoByteSettlement(|_| true);
+
+pub struct TwoByteTradeLeavesCost;
+
+impl CallRules for TwoByteTradeLeavesCost {
+    fn gain(&self, trade: &AccountTrade, closed: &ClosedDays) -> i128 {
+        match is_two_byte(trade.trade) {
+            true => closed.last_price,
+            false => RightLedger.gain(trade, closed),
+        }
+    }
+}
+
+pub struct TwoByteTradeLeavesVolume;
+
+impl CallRules for TwoByteTradeLeavesVolume {
+    fn contracts(&self, trade: Trade, account: Account) -> i128 {
+        match is_two_byte(trade) {
+            true => 0,
+            false => RightLedger.contracts(trade, account),
+        }
+    }
+}
+
+/// The run for C doesn't count them.
+pub struct TwoByteTradeNotCounted;
+
+impl FileRules for TwoByteTradeNotCounted {
+    fn is_accepted(&self, answer: Answer) -> bool {
+        match answer {
+            Answer::Accepted(call) => !is_two_byte_trade(call),
+            _ => false,
+        }
+    }
+}
