@@ -60,6 +60,7 @@ impl RefusalRules for PositionBeforeAccount {
     fn checking_order(&self, call: Call) -> &'static [Check] {
         match call {
             Call::Trade(trade) if self.refuses_account(trade) => &[
+                Check::Day,
                 Check::Halt,
                 Check::Field,
                 Check::BuyerPosition,
