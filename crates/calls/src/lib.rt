@@ -45,7 +45,8 @@ impl From<u8> for Kind {
     }
 }
 
-// A trade.
+// A trade. An account is any number of two bytes, as in a body: refusal 12 meets one that isn't there, in its place among the
+// refusals.
 #[derive(Clone, Copy)]
 pub struct Trade {
     pub buyer: u16,

@@ -64,7 +64,7 @@ accepted_calls n b (c ∷ cs) = keep_if (is_accepted n b c) c (accepted_calls n 
 
 -- ---- the report
 
--- 01: "A report checks 2 then 10 and works on any day"; 10: "A report is lent a list that isn't 256 long"
+-- 01: "A report checks 2 then 10 and works on any day"; 02-5: "reports need lists of 1,024, else 10"
 abbrev pub report_refusal : ℕ → Book → ℕ → ℕ → ℕ
 report_refusal n b positions cash = first_met ((2, not (within_limits n b)) ∷ (10, not (eqb positions n) || not (eqb cash n)) ∷ [])
 
