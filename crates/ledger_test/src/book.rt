@@ -1,4 +1,7 @@
 // A book's accounts, and a book with nothing in it.
+ghost use Rattle.std.specs.Prelude.{◌<◌};
+ghost use Rattle.columns.specs.Columns.{accounts};
+
 use crate::numbers::{Mistake, Numbers};
 use calls::FULL_DAY;
 use columns::{ACCOUNTS, Columns};
@@ -27,33 +30,46 @@ impl Entry {
         (Entry::Cash, "cash"),
     ];
 
-    pub fn of(self, book: &Book, account: u8) -> i64 {
-        let i = usize::from(account);
-        let columns = &book.columns;
+    pub fn of(self, columns: &Columns, account: usize) -> i64
+        requires { account < accounts }
+    {
         match self {
-            Entry::Opening => columns.opening[i],
-            Entry::Position => columns.position[i],
-            Entry::Cost => columns.cost[i],
-            Entry::Volume => columns.volume[i].into(),
-            Entry::Cash => columns.cash[i],
+            Entry::Opening => columns.opening[account],
+            Entry::Position => columns.position[account],
+            Entry::Cost => columns.cost[account],
+            Entry::Volume => columns.volume[account].into(),
+            Entry::Cash => columns.cash[account],
         }
     }
 
     pub fn set(
         self,
-        book: &mut Book,
-        account: u8,
+        columns: &mut Columns,
+        account: usize,
         numbers: &mut Numbers<'_>,
     ) -> Result<(), Mistake> {
-        let i = usize::from(account);
-        let columns = &mut book.columns;
-        match self {
-            Entry::Opening => numbers.set(&mut columns.opening[i]),
-            Entry::Position => numbers.set(&mut columns.position[i]),
-            Entry::Cost => numbers.set(&mut columns.cost[i]),
-            Entry::Volume => numbers.set(&mut columns.volume[i]),
-            Entry::Cash => numbers.set(&mut columns.cash[i]),
+        if account >= ACCOUNTS {
+            return Err(Mistake::NoSuchAccount);
         }
+        match self {
+            Entry::Opening => numbers.set(&mut columns.opening[account]),
+            Entry::Position => numbers.set(&mut columns.position[account]),
+            Entry::Cost => numbers.set(&mut columns.cost[account]),
+            Entry::Volume => numbers.set(&mut columns.volume[account]),
+            Entry::Cash => numbers.set(&mut columns.cash[account]),
+        }
+    }
+
+    // One number into the entries of all accounts.
+    pub fn set_all(self, columns: &mut Columns, numbers: &mut Numbers<'_>) -> Result<(), Mistake> {
+        match self {
+            Entry::Opening => columns.opening = [numbers.next()?; ACCOUNTS],
+            Entry::Position => columns.position = [numbers.next()?; ACCOUNTS],
+            Entry::Cost => columns.cost = [numbers.next()?; ACCOUNTS],
+            Entry::Volume => columns.volume = [numbers.next()?; ACCOUNTS],
+            Entry::Cash => columns.cash = [numbers.next()?; ACCOUNTS],
+        }
+        Ok(())
     }
 }
 

@@ -1,6 +1,10 @@
 // What differs between two books, in every figure and every account's entries.
+ghost use Rattle.std.specs.Prelude.{◌<◌};
+ghost use Rattle.columns.specs.Columns.{accounts};
+
 use crate::book::Entry;
 use crate::figure::{Figure, Value};
+use columns::{ACCOUNTS, Columns};
 use funding::market::Market;
 use ledger::Book;
 use std::alloc::{AllocError, Global};
@@ -11,7 +15,7 @@ use std::{fmt, io};
 pub enum Change {
     Figure(&'static str, Value),
     // the account of the entries that follow
-    Account(u8),
+    Account(usize),
     Entry(&'static str, i64),
 }
 
@@ -32,10 +36,12 @@ impl fmt::Display for Change {
 
 fn push_account(
     changes: &mut Vec<Change>,
-    account: u8,
-    before: &Book,
-    after: &Book,
-) -> Result<(), AllocError> {
+    account: usize,
+    before: &Columns,
+    after: &Columns,
+) -> Result<(), AllocError>
+    requires { account < accounts }
+{
     let mut is_named = false;
     for (entry, name) in &Entry::NAMED {
         let value = entry.of(after, account);
@@ -58,8 +64,8 @@ pub fn between(alloc: Global, before: &Book, after: &Book) -> Result<Vec<Change>
             changes.push(Change::Figure(name, value))?;
         }
     }
-    for account in 0..=u8::MAX {
-        push_account(&mut changes, account, before, after)?;
+    for account in 0..ACCOUNTS {
+        push_account(&mut changes, account, &before.columns, &after.columns)?;
     }
     Ok(changes)
 }

@@ -10,9 +10,10 @@ use std::str::FromStr;
 #[derive(Clone, Copy)]
 enum Field {
     Figure(Figure),
-    // of the account that the list named last
+    // of the account that the list named last, or of all
     Entry(Entry),
     Account,
+    AllAccounts,
     // the book of an opening
     Opened,
     // the market and the minute's market
@@ -41,6 +42,7 @@ impl FromStr for Field {
         }
         match text {
             "account" => Ok(Field::Account),
+            "all accounts" => Ok(Field::AllAccounts),
             "opened" => Ok(Field::Opened),
             "both markets" => Ok(Field::BothMarkets),
             "valid minutes" => Ok(Field::ValidMinutes),
@@ -49,31 +51,49 @@ impl FromStr for Field {
     }
 }
 
+// Whose the entries of a list are.
+#[derive(Clone, Copy)]
+enum Owner {
+    // before the list names one
+    Nobody,
+    Account(usize),
+    AllAccounts,
+}
+
 // A book of which some fields are set.
 #[derive(Clone, Copy)]
 pub struct Draft {
     pub book: Book,
-    // none before the list names one
-    account: Option<u8>,
+    owner: Owner,
 }
 
 impl Draft {
     pub fn new() -> Self {
         Self {
             book: empty_book(),
-            account: None,
+            owner: Owner::Nobody,
+        }
+    }
+
+    fn set_entry(&mut self, entry: Entry, numbers: &mut Numbers<'_>) -> Result<(), Mistake> {
+        let columns = &mut self.book.columns;
+        match self.owner {
+            Owner::Nobody => Err(Mistake::NoAccount),
+            Owner::Account(account) => entry.set(columns, account, numbers),
+            Owner::AllAccounts => entry.set_all(columns, numbers),
         }
     }
 
     fn set(&mut self, field: Field, numbers: &mut Numbers<'_>) -> Result<(), Mistake> {
         match field {
             Field::Figure(figure) => figure.set(&mut self.book.figures, numbers),
-            Field::Entry(entry) => {
-                let account = self.account.ok_or(Mistake::NoAccount)?;
-                entry.set(&mut self.book, account, numbers)
-            }
+            Field::Entry(entry) => self.set_entry(entry, numbers),
             Field::Account => {
-                self.account = Some(numbers.next()?);
+                self.owner = Owner::Account(numbers.next()?);
+                Ok(())
+            }
+            Field::AllAccounts => {
+                self.owner = Owner::AllAccounts;
                 Ok(())
             }
             Field::Opened => {

@@ -9,6 +9,8 @@ pub enum Mistake {
     NoSuchField,
     // an entry of no account
     NoAccount,
+    // an entry of an account past the last one
+    NoSuchAccount,
     // none is left, or it is outside its field's type
     NoNumber,
 }
@@ -18,6 +20,7 @@ impl fmt::Display for Mistake {
         f.write_str(match self {
             Mistake::NoSuchField => "NO SUCH FIELD: ",
             Mistake::NoAccount => "NO ACCOUNT: ",
+            Mistake::NoSuchAccount => "NO SUCH ACCOUNT: ",
             Mistake::NoNumber => "NO NUMBER: ",
         })
     }
