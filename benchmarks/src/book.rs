@@ -1,32 +1,21 @@
 //! A book that its calls change in place.
 
 use crate::market::{Market, Midpoints, MINUTE};
-use crate::price::{is_price, TICK};
+use crate::price::is_price;
 use crate::settlement::{amount, average, basis, rate};
-use dayformat::kind::{BLOCK, SIMPLE, SPREAD};
-use reference::refusal::{CROSSED, DAY, FIELD, HALT, NO_PRICE, POSITION, TIME, VOLUME};
+use crate::trade::{Trade, ACCOUNTS};
+use dayformat::kind::SIMPLE;
+use reference::refusal::{ACCOUNT, CROSSED, DAY, FIELD, HALT, NO_PRICE, POSITION, TIME, VOLUME};
 
-pub const ACCOUNTS: usize = 256;
 /// The lengths of a day, in minutes.
 pub const FULL_DAY: u32 = 1_320;
 const SHORT_DAY: u32 = 1_140;
 const MOST_DAYS: u32 = 2_600;
-const MOST_QUANTITY: u32 = 100_000;
-const LEAST_BLOCK: u32 = 250;
 const MOST_VOLUME: u32 = 2_000_000;
 const MOST_POSITION: i64 = 1_200_000;
 
 /// Nothing, or the number of the refusal.
 pub type Answer = Result<(), u8>;
-
-#[derive(Clone, Copy)]
-pub struct Trade {
-    pub buyer: u8,
-    pub seller: u8,
-    pub kind: u8,
-    pub quantity: u32,
-    pub price: u32,
-}
 
 #[derive(Default)]
 struct Day {
@@ -93,23 +82,15 @@ impl Day {
     }
 }
 
-impl Trade {
-    fn is_in_field(self) -> bool {
-        (1..=MOST_QUANTITY).contains(&self.quantity)
-            && is_price(self.price)
-            && match self.kind {
-                SIMPLE => self.price.is_multiple_of(TICK),
-                SPREAD => true,
-                BLOCK => LEAST_BLOCK <= self.quantity,
-                _ => false,
-            }
-    }
-}
-
 impl Book {
-    /// A fresh book, none if the size is refused.
-    pub fn open(size: u8) -> Option<Self> {
-        (size == 1 || size == 10).then(|| Book {
+    pub fn is_size(size: u8) -> bool {
+        size == 1 || size == 10
+    }
+
+    /// A fresh book; the size is one of the two.
+    #[inline]
+    pub fn open(size: u8) -> Self {
+        Book {
             size: size.into(),
             closed: 0,
             halted: false,
@@ -121,7 +102,7 @@ impl Book {
             cost: [0; ACCOUNTS],
             volume: [0; ACCOUNTS],
             cash: [0; ACCOUNTS],
-        })
+        }
     }
 
     fn is_full(&self) -> bool {
@@ -165,11 +146,12 @@ impl Book {
         Ok(())
     }
 
-    #[inline]
+    #[inline(always)]
     pub fn trade(&mut self, trade: Trade) -> Answer {
         refused_if(self.is_full(), DAY)?;
         refused_if(self.halted, HALT)?;
         refused_if(!trade.is_in_field(), FIELD)?;
+        refused_if(!trade.has_accounts(), ACCOUNT)?;
         let (buyer, seller) = (usize::from(trade.buyer), usize::from(trade.seller));
         let quantity = i64::from(trade.quantity);
         let (counted, moved) = match buyer == seller {

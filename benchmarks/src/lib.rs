@@ -9,6 +9,7 @@ mod market;
 mod play;
 mod price;
 mod settlement;
+mod trade;
 
-pub use book::ACCOUNTS;
 pub use play::{answers, run};
+pub use trade::ACCOUNTS;

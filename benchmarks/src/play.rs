@@ -1,16 +1,18 @@
 //! Reads a file's records and plays them.
 
-use crate::book::{Answer, Book, Trade, ACCOUNTS};
+use crate::book::{Answer, Book};
 use crate::market::Market;
+use crate::trade::{Trade, ACCOUNTS};
 use dayformat::{body_length, header, length, tag};
 use reference::refusal::FILE;
 
 /// The same run as the C library's, on the same lists.
 pub fn run(size: u8, file: &[u8], positions: &mut [i64], cash: &mut [i64]) -> u64 {
     let lists_are_taken = positions.len() == ACCOUNTS && cash.len() == ACCOUNTS;
-    let Some(mut book) = Book::open(size).filter(|_| lists_are_taken) else {
+    if !Book::is_size(size) || !lists_are_taken {
         return 0;
-    };
+    }
+    let mut book = Book::open(size);
     let mut accepted = 0;
     play(&mut book, file, |answer| {
         accepted += u64::from(answer == Some(Ok(())));
@@ -23,16 +25,29 @@ pub fn run(size: u8, file: &[u8], positions: &mut [i64], cash: &mut [i64]) -> u6
 /// The answer to each record, none to an unknown one.
 pub fn answers(size: u8, file: &[u8]) -> Vec<Option<Answer>> {
     let mut answers = Vec::new();
-    if let Some(mut book) = Book::open(size) {
-        play(&mut book, file, |answer| answers.push(answer));
+    if Book::is_size(size) {
+        play(&mut Book::open(size), file, |answer| answers.push(answer));
     }
     answers
 }
 
+/// Trades with two-byte accounts have a loop of their own: beside the other calls, with the same code
+/// for both kinds of trades, the compiler makes them slower.
 #[inline(always)]
 fn play(book: &mut Book, file: &[u8], mut answered: impl FnMut(Option<Answer>)) {
     let mut rest = file;
     while !rest.is_empty() {
+        while let [tag::TWO_BYTE_TRADE, 0, length::TWO_BYTE_TRADE, i, j, k, l, kind, a, b, c, d, e, f, g, h, ref next @ ..] =
+            *rest
+        {
+            let (buyer, seller) = (u16::from_be_bytes([i, j]), u16::from_be_bytes([k, l]));
+            let trade = trade(buyer, seller, kind, [a, b, c, d, e, f, g, h]);
+            answered(Some(book.trade(trade)));
+            rest = next;
+        }
+        if rest.is_empty() {
+            break;
+        }
         let (answer, next) = match call(book, rest) {
             Some((answer, next)) => (Some(answer), next),
             None => passed_over(rest),
@@ -42,8 +57,19 @@ fn play(book: &mut Book, file: &[u8], mut answered: impl FnMut(Option<Answer>)) 
     }
 }
 
-/// Plays the first record and gives what follows it, none unless it has a known tag and its length.
-/// One pattern reads both, so that the place of the next record doesn't wait for the length.
+fn trade(buyer: u16, seller: u16, kind: u8, [a, b, c, d, e, f, g, h]: [u8; 8]) -> Trade {
+    Trade {
+        buyer,
+        seller,
+        kind,
+        quantity: number([a, b, c, d]),
+        price: number([e, f, g, h]),
+    }
+}
+
+/// Plays the first record and gives what follows it, none unless it has a known tag but that of a
+/// trade with two-byte accounts, and its length. One pattern reads both, so that the place of the
+/// next record doesn't wait for the length.
 #[inline(always)]
 fn call<'a>(book: &mut Book, file: &'a [u8]) -> Option<(Answer, &'a [u8])> {
     Some(match *file {
@@ -52,13 +78,7 @@ fn call<'a>(book: &mut Book, file: &'a [u8]) -> Option<(Answer, &'a [u8])> {
         }
         [tag::TRADE, 0, length::TRADE, buyer, seller, kind, a, b, c, d, e, f, g, h, ref next @ ..] =>
         {
-            let trade = Trade {
-                buyer,
-                seller,
-                kind,
-                quantity: number([a, b, c, d]),
-                price: number([e, f, g, h]),
-            };
+            let trade = trade(buyer.into(), seller.into(), kind, [a, b, c, d, e, f, g, h]);
             (book.trade(trade), next)
         }
         [tag::QUOTE, 0, length::QUOTE, a, b, c, d, e, f, g, h, ref next @ ..] => {

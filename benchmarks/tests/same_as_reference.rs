@@ -7,6 +7,7 @@ use differential::random::Random;
 use reference::play::{play, Answer};
 use reference::rules::Rules;
 use reference::{c_run, size_and_records};
+use std::collections::BTreeSet;
 
 const UNTOUCHED: i64 = i64::MIN;
 
@@ -133,6 +134,60 @@ fn days_settled_by_midpoints() {
     }
 }
 
+/// Accounts at both ends and at those of one byte, and two that are none.
+const NUMBERS: [u16; 8] = [0, 1, 255, 256, 1_022, 1_023, 1_024, 65_535];
+
+/// A trade by either record. The lower account mostly buys, so that the limit on positions is met;
+/// some have more than one field or account that is refused.
+fn add_trade(file: &mut Writer, random: &mut Random) {
+    let kind = random.pick(&[0, 1, 2, 2, 3]);
+    let quantity = random.pick(&[0, 249, 90_000, 100_000, 100_000, 100_000, 100_001]);
+    let price = random.pick(&[200_200, 200_210, 200_220, 200_215, 4_990]);
+    let (one, other) = (random.pick(&NUMBERS), random.pick(&NUMBERS));
+    let (buyer, seller) = match random.chance(80) {
+        true => (one.min(other), one.max(other)),
+        false => (one, other),
+    };
+    match random.chance(30) {
+        true => file.trade((buyer as u8, seller as u8), kind, quantity, price),
+        false => file.two_byte_trade((buyer, seller), kind, quantity, price),
+    };
+}
+
+/// Every eighth minute has trades, and every sixteenth is halted.
+fn add_traded_day(file: &mut Writer, random: &mut Random) {
+    for minute in 0..1_320 {
+        if minute % 16 == 0 {
+            file.halt();
+        }
+        if minute % 8 == 0 || minute == 1_319 {
+            (0..random.below(8)).for_each(|_| add_trade(file, random));
+        }
+        if minute % 16 == 0 {
+            file.resume();
+        }
+        file.minute_ends(1, 200_000);
+    }
+    file.fix(200_250).close();
+}
+
+#[test]
+fn trades_with_two_byte_accounts() {
+    let mut random = Random::new(5);
+    let mut met = BTreeSet::new();
+    for number in 0..10 {
+        let mut file = Writer::new();
+        for _ in 0..3 {
+            add_traded_day(&mut file, &mut random);
+        }
+        let input = [&[10], &file.bytes[..]].concat();
+        expect_same(&format!("two-byte accounts {number}"), &input);
+        let answers = answers(10, &file.bytes);
+        met.extend(answers.into_iter().flatten().filter_map(Result::err));
+    }
+    assert_eq!(met, BTreeSet::from([4, 5, 7, 8, 12]));
+}
+
 #[test]
 fn more_than_2600_days() {
     expect_same("long", &profiles::long_input(1));
@@ -140,7 +195,10 @@ fn more_than_2600_days() {
 
 #[test]
 fn lists_of_other_lengths_stay_untouched() {
-    for (positions, cash) in [(255, 256), (256, 257), (0, 0)] {
+    let lengths = [0, 255, 256, 257, ACCOUNTS - 1, ACCOUNTS, ACCOUNTS + 1];
+    let pairs = lengths.map(|length| [(length, ACCOUNTS), (ACCOUNTS, length), (length, length)]);
+    let refused = |pair: &&(usize, usize)| **pair != (ACCOUNTS, ACCOUNTS);
+    for &(positions, cash) in pairs.as_flattened().iter().filter(refused) {
         let (mut positions, mut cash) = (vec![7; positions], vec![7; cash]);
         assert_eq!(run(10, &[7, 0, 0], &mut positions, &mut cash), 0);
         assert!(positions.iter().chain(&cash).all(|entry| *entry == 7));
