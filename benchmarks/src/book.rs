@@ -9,7 +9,7 @@ use reference::refusal::{ACCOUNT, CROSSED, DAY, FIELD, HALT, NO_PRICE, POSITION,
 
 /// The lengths of a day, in minutes.
 pub const FULL_DAY: u32 = 1_320;
-const SHORT_DAY: u32 = 1_140;
+pub const SHORT_DAY: u32 = 1_140;
 const MOST_DAYS: u32 = 2_600;
 const MOST_VOLUME: u32 = 2_000_000;
 const MOST_POSITION: i64 = 1_200_000;

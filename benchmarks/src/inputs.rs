@@ -1,8 +1,8 @@
 //! The files that are timed. Every record of them is accepted.
 
-use crate::book::FULL_DAY;
+use crate::book::{FULL_DAY, SHORT_DAY};
 use crate::market::MINUTE;
-use dayformat::{kind, Writer};
+use dayformat::{kind, tag, Writer};
 use differential::random::Random;
 
 const SIZE: u8 = 10;
@@ -13,22 +13,34 @@ pub struct Input {
     pub size: u8,
     pub file: Vec<u8>,
     pub records: u64,
+    pub closes: u64,
 }
 
+/// The files of trades with two-byte accounts, and how many accounts are active in each. They differ
+/// in nothing else.
+pub const TWO_BYTE_TRADES: [(&str, u32); 2] = [
+    ("20 days of 5,280 two-byte trades, 256 accounts", 256),
+    ("20 days of 5,280 trades, 1,024 accounts", 1_024),
+];
+
 pub fn all() -> Vec<Input> {
+    let [few_accounts, all_accounts] = TWO_BYTE_TRADES
+        .map(|(name, accounts)| days(name, 20, traded_minute(4, tag::TWO_BYTE_TRADE, accounts)));
     vec![
         days("a day of minute ends, market quoted", 1, quoted_minute),
         days("a day of minute ends, no market", 1, empty_minute),
         days(
             "a day of 100,320 trades, 16 accounts",
             1,
-            traded_minute(76, 16),
+            traded_minute(76, tag::TRADE, 16),
         ),
         days(
             "20 days of 5,280 trades, 256 accounts",
             20,
-            traded_minute(4, 256),
+            traded_minute(4, tag::TRADE, 256),
         ),
+        few_accounts,
+        all_accounts,
         day_of_midpoints("a day with four timed quotes a minute", timed_minute),
         days("2,600 days, market quoted", 2_600, quoted_minute),
         days("2,600 days, no market", 2_600, empty_minute),
@@ -40,12 +52,37 @@ struct File {
     random: Random,
     writer: Writer,
     records: u64,
+    closes: u64,
 }
 
 impl File {
+    fn new() -> Self {
+        File {
+            random: Random::new(1),
+            writer: Writer::new(),
+            records: 0,
+            closes: 0,
+        }
+    }
+
+    fn named(self, name: &'static str) -> Input {
+        Input {
+            name,
+            size: SIZE,
+            file: self.writer.bytes,
+            records: self.records,
+            closes: self.closes,
+        }
+    }
+
     /// An index or price near the level.
     fn near(&mut self) -> u32 {
         LEVEL - 10_000 + self.random.below(20_001)
+    }
+
+    fn length_of_day(&mut self, minutes: u32) {
+        self.writer.length_of_day(minutes as u16);
+        self.records += 1;
     }
 
     fn minute_end(&mut self) {
@@ -66,12 +103,34 @@ impl File {
         self.records += 1;
     }
 
-    fn trade(&mut self, accounts: u32) {
+    fn fix(&mut self, set_price: u32) {
+        self.writer.fix(set_price);
+        self.records += 1;
+    }
+
+    fn close(&mut self) {
+        self.writer.close();
+        self.records += 1;
+        self.closes += 1;
+    }
+
+    /// A trade between two of so many accounts, by the record with this tag.
+    fn trade(&mut self, tag: u8, accounts: u32) {
         let buyer = self.random.below(accounts);
         let seller = (buyer + 1 + self.random.below(accounts - 1)) % accounts;
+        self.trade_between(tag, buyer, seller);
+    }
+
+    fn trade_between(&mut self, tag: u8, buyer: u32, seller: u32) {
         let (quantity, price) = (self.random.between(1, 20), self.near() / 10 * 10);
-        let accounts = (buyer as u8, seller as u8);
-        self.writer.trade(accounts, kind::SIMPLE, quantity, price);
+        if tag == tag::TWO_BYTE_TRADE {
+            let accounts = (buyer as u16, seller as u16);
+            self.writer
+                .two_byte_trade(accounts, kind::SIMPLE, quantity, price);
+        } else {
+            let accounts = (buyer as u8, seller as u8);
+            self.writer.trade(accounts, kind::SIMPLE, quantity, price);
+        }
         self.records += 1;
     }
 }
@@ -97,11 +156,11 @@ fn timed_minute(file: &mut File, _minute: u32) {
     file.minute_end();
 }
 
-fn traded_minute(trades: u32, accounts: u32) -> impl Fn(&mut File, u32) {
+fn traded_minute(trades: u32, tag: u8, accounts: u32) -> impl Fn(&mut File, u32) {
     move |file, minute| {
         quoted_minute(file, minute);
         for _ in 0..trades {
-            file.trade(accounts);
+            file.trade(tag, accounts);
         }
     }
 }
@@ -122,23 +181,43 @@ fn input(
     minute: impl Fn(&mut File, u32),
     set_price: impl Fn(&mut File) -> u32,
 ) -> Input {
-    let mut file = File {
-        random: Random::new(1),
-        writer: Writer::new(),
-        records: 0,
-    };
+    let mut file = File::new();
     for _ in 0..days {
         for number in 0..FULL_DAY {
             minute(&mut file, number);
         }
         let set_price = set_price(&mut file);
-        file.writer.fix(set_price).close();
-        file.records += 2;
+        file.fix(set_price);
+        file.close();
     }
-    Input {
-        name,
-        size: SIZE,
-        file: file.writer.bytes,
-        records: file.records,
+    file.named(name)
+}
+
+/// A fixed day with hardly more than it needs, on which each of so many accounts trades once. Its
+/// last minute is valid, so that there is an amount to post.
+pub fn fixed_day(accounts: u32) -> Input {
+    fixed(accounts).named("a fixed day")
+}
+
+/// The same day with its close.
+pub fn closed_day(accounts: u32) -> Input {
+    let mut file = fixed(accounts);
+    file.close();
+    file.named("a closed day")
+}
+
+fn fixed(accounts: u32) -> File {
+    let mut file = File::new();
+    file.length_of_day(SHORT_DAY);
+    for buyer in (0..accounts).step_by(2) {
+        file.trade_between(tag::TWO_BYTE_TRADE, buyer, buyer + 1);
     }
+    for _ in 1..SHORT_DAY {
+        file.minute_end();
+    }
+    file.quote();
+    file.minute_end();
+    let set_price = file.near();
+    file.fix(set_price);
+    file
 }
