@@ -72,6 +72,8 @@ fn time(run: Run, input: &Input, repeats: u32) -> Duration {
 /// The best round of a side on each file, in nanoseconds a run. The files take turns.
 pub fn best_rounds<const FILES: usize>(run: Run, inputs: [&Input; FILES]) -> [f64; FILES] {
     let repeats = inputs.map(|input| {
+        // The first run takes longer.
+        time(run, input, 1);
         let once = time(run, input, 1).max(Duration::from_micros(1));
         (ROUND.as_nanos() / once.as_nanos()).max(1) as u32
     });
