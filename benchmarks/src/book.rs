@@ -146,6 +146,8 @@ impl Book {
         Ok(())
     }
 
+    /// Each caller has a copy: where both called one, a record of a traded day took 1.1 to 1.4 times as
+    /// long.
     #[inline(always)]
     pub fn trade(&mut self, trade: Trade) -> Answer {
         refused_if(self.is_full(), DAY)?;
