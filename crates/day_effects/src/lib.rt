@@ -2,15 +2,15 @@
 #![tactic(auto)]
 
 ghost use Rattle.std.specs.Prelude.{◌≡◌, ◌-◌};
-ghost use Rattle.day.specs.Day.{no_markets, with_market};
-ghost use Rattle.day_effects.specs.Effects.{with_markets, with_minutes, with_trades, with_fixed, with_timing, stood_until, timing_after_quote, timing_after_minute, weighted_after, minute_ended, next_minute};
+ghost use Rattle.day.specs.Day.{with_market};
+ghost use Rattle.day_effects.specs.Effects.{with_markets, with_minutes, with_trades, with_timing, stood_until, timing_after_quote, timing_after_minute, weighted_after, minute_ended, next_minute};
 ghost use Rattle.day_effects.specs.Effects.{quoted as Effects·quoted};
 ghost use Rattle.day_effects.specs.Effects.{traded as Effects·traded};
 ghost use Rattle.calls.specs.Time.{minute_length};
 ghost use Rattle.day_effects.specs.Inner.{RoomForTrade, RoomForTime, Endable, at_minute_end};
 
 use calls::{Kind, MINUTE_LENGTH, TimedQuote, Trade};
-use day::{Day, Fixed, Markets, Timing};
+use day::{Day, Markets, Timing};
 use funding::market::Market;
 use settlement::Midpoints;
 
@@ -31,11 +31,10 @@ fn next_minute(markets: Markets) -> Markets
     after
 }
 
-pub fn quoted(mut day: Day, market: Market) -> Day
-    ensures { result ≡ with_markets day (Effects·quoted day.markets market) }
+pub fn quoted(day: &mut Day, market: Market)
+    ensures { day.new ≡ with_markets day.old (Effects·quoted day.old.markets market) }
 {
     day.markets = quoted_markets(day.markets, market);
-    day
 }
 
 // The midpoints with that of the standing market, which has stood up to this time of the last minute.
@@ -64,39 +63,30 @@ fn stood_until(day: Day, time: u32) -> Midpoints
 }
 
 // A time that is no earlier than the latest, and room for it, are required.
-pub fn timed_quoted(day: Day, quote: TimedQuote) -> Day
-    requires { RoomForTime day quote.time }
-    ensures { result ≡ with_timing (with_markets day (Effects·quoted day.markets quote.market)) (timing_after_quote day quote.time) }
+pub fn timed_quoted(day: &mut Day, quote: TimedQuote)
+    requires { RoomForTime day.old quote.time }
+    ensures { day.new ≡ with_timing (with_markets day.old (Effects·quoted day.old.markets quote.market)) (timing_after_quote day.old quote.time) }
 {
-    let mut after = quoted(day, quote.market);
-    after.timing = Timing {
+    day.timing = Timing {
         latest: quote.time,
-        midpoints: stood_until(day, quote.time),
+        midpoints: stood_until(*day, quote.time),
     };
-    after
-}
-
-pub fn without_markets(mut day: Day) -> Day
-    ensures { result ≡ with_markets day no_markets }
-{
-    day.markets = Markets::none();
-    day
+    quoted(day, quote.market);
 }
 
 // Room for the trade in n and in the gross is required.
-pub fn traded(mut day: Day, t: Trade) -> Day
-    requires { RoomForTrade day.trades.settling t }
-    ensures { result ≡ with_trades day (Effects·traded day t) }
+pub fn traded(day: &mut Day, t: Trade)
+    requires { RoomForTrade day.old.trades.settling t }
+    ensures { day.new ≡ with_trades day.old (Effects·traded day.old t) }
 {
     if t.kind != Kind::Simple {
-        return day;
+        return;
     }
     day.trades.last = t.price;
     if day.is_in_last_minute() {
         day.trades.settling.contracts += t.quantity;
         day.trades.settling.gross += u64::from(t.quantity) * u64::from(t.price);
     }
-    day
 }
 
 // Here and below the index of a minute stands beside whether the minute is valid: it may be the day's index either way, so that a
@@ -116,35 +106,27 @@ fn weighted_after(day: Day, valid: bool, index: u32) -> i64
 }
 
 // The day at the end of a minute: of the last one, this is the day's index, and the standing market stood up to its end.
-fn at_minute_end(mut day: Day, index: u32) -> Day
-    requires { RoomForTime day minute_length }
-    ensures { result ≡ at_minute_end day index }
+fn at_minute_end(day: &mut Day, index: u32)
+    requires { RoomForTime day.old minute_length }
+    ensures { day.new ≡ at_minute_end day.old index }
 {
     let last = day.is_in_last_minute();
     if last {
         day.minutes.index = index;
-        day.timing.midpoints = weighed(day, MINUTE_LENGTH);
+        day.timing.midpoints = weighed(*day, MINUTE_LENGTH);
     }
-    day
 }
 
-pub fn minute_ended(day: Day, valid: bool, index: u32) -> Day
-    requires { Endable day valid index }
-    ensures { result
-        ≡ with_timing (with_minutes (with_markets day (next_minute day.markets)) (minute_ended day valid index)) (timing_after_minute day) }
+pub fn minute_ended(day: &mut Day, valid: bool, index: u32)
+    requires { Endable day.old valid index }
+    ensures { day.new
+        ≡ with_timing (with_minutes (with_markets day.old (next_minute day.old.markets)) (minute_ended day.old valid index)) (timing_after_minute day.old) }
 {
-    let mut after = at_minute_end(day, index);
-    after.timing.latest = 0;
-    after.minutes.weighted = weighted_after(day, valid, index);
-    after.minutes.valid = day.minutes.valid + u32::from(valid);
-    after.minutes.ended = day.minutes.ended + 1;
-    after.markets = next_minute(day.markets);
-    after
-}
-
-pub fn fixed(mut day: Day, fixed: Fixed) -> Day
-    ensures { result ≡ with_fixed day fixed }
-{
-    day.fixed = fixed;
-    day
+    let weighted = weighted_after(*day, valid, index);
+    at_minute_end(day, index);
+    day.timing.latest = 0;
+    day.minutes.weighted = weighted;
+    day.minutes.valid += u32::from(valid);
+    day.minutes.ended += 1;
+    day.markets = next_minute(day.markets);
 }

@@ -10,16 +10,15 @@ ghost use Rattle.outcomes.specs.Effects.{with_begun_day, figures_after};
 ghost use Rattle.outcomes.specs.Outcome.{outcome};
 
 use calls::{Call, TimedQuote, Trade};
-use day::{Day, Fixed};
+use day::{Day, Fixed, Markets};
 use figures::{Figures, Fixing, Outcome};
 use funding::market::Market;
 use settlement::Previous;
 
-// Sets the day, which has begun with this call.
-fn begin(figures: &mut Figures, day: Day)
-    ensures { figures.new ≡ with_begun_day figures.old figures.old.halted day }
+// The date has begun with this call.
+fn begin(figures: &mut Figures)
+    ensures { figures.new ≡ with_begun_day figures.old figures.old.halted figures.old.day }
 {
-    figures.day = day;
     figures.day.session.begun = true;
 }
 
@@ -27,7 +26,8 @@ pub fn quote(figures: &mut Figures, market: Market) -> Outcome
     ensures { outcome_of result figures.new ≡ outcome figures.old (Call.Quote market) }
 {
     refusals::quote(figures.closed, figures.halted, market)?;
-    begin(figures, day_effects::quoted(figures.day, market));
+    day_effects::quoted(&mut figures.day, market);
+    begin(figures);
     Ok(None)
 }
 
@@ -36,9 +36,14 @@ pub fn timed_quote(figures: &mut Figures, quote: TimedQuote) -> Outcome
     requires { figures_hold figures.old ≡ true }
     ensures { outcome_of result figures.new ≡ outcome figures.old (Call.TimedQuote quote) }
 {
-    let day = figures.day;
-    refusals::timed_quote(figures.closed, figures.halted, day.timing.latest, quote)?;
-    begin(figures, day_effects::timed_quoted(day, quote));
+    refusals::timed_quote(
+        figures.closed,
+        figures.halted,
+        figures.day.timing.latest,
+        quote,
+    )?;
+    day_effects::timed_quoted(&mut figures.day, quote);
+    begin(figures);
     Ok(None)
 }
 
@@ -47,7 +52,8 @@ pub fn traded(figures: &mut Figures, t: Trade)
     requires { RoomForTrade figures.old.day.trades.settling t }
     ensures { figures.new ≡ figures_after figures.old (Call.Trade t) }
 {
-    begin(figures, day_effects::traded(figures.day, t));
+    day_effects::traded(&mut figures.day, t);
+    begin(figures);
 }
 
 pub fn halt(figures: &mut Figures) -> Outcome
@@ -55,7 +61,8 @@ pub fn halt(figures: &mut Figures) -> Outcome
 {
     refusals::halt(figures.closed, figures.halted)?;
     figures.halted = true;
-    begin(figures, day_effects::without_markets(figures.day));
+    figures.day.markets = Markets::none();
+    begin(figures);
     Ok(None)
 }
 
@@ -64,17 +71,16 @@ pub fn resume(figures: &mut Figures) -> Outcome
 {
     refusals::resume(figures.closed, figures.halted)?;
     figures.halted = false;
-    begin(figures, figures.day);
+    begin(figures);
     Ok(None)
 }
 
 pub fn day_length(figures: &mut Figures, minutes: u32) -> Outcome
     ensures { outcome_of result figures.new ≡ outcome figures.old (Call.DayLength minutes) }
 {
-    let mut day = figures.day;
-    refusals::day_length(figures.closed, day.session.begun, minutes)?;
-    day.session.length = minutes;
-    begin(figures, day);
+    refusals::day_length(figures.closed, figures.day.session.begun, minutes)?;
+    figures.day.session.length = minutes;
+    begin(figures);
     Ok(None)
 }
 
@@ -89,7 +95,8 @@ pub fn minute_end(figures: &mut Figures, index: u32) -> Outcome
         .markets
         .minute
         .is_valid(figures.halted, index, figures.terms());
-    begin(figures, day_effects::minute_ended(day, valid, index));
+    day_effects::minute_ended(&mut figures.day, valid, index);
+    begin(figures);
     Ok(None)
 }
 
@@ -101,7 +108,7 @@ pub fn fix(figures: &mut Figures, set: u32) -> Outcome
     let fixing = figures.fixing(set);
     refusals::fix(figures.closed, day.forbids_fix(), set, fixing.price)?;
     let Fixing { price, amount, .. } = fixing;
-    figures.day = day_effects::fixed(day, Fixed { price, amount });
+    figures.day.fixed = Fixed { price, amount };
     Ok(Some(fixing))
 }
 
