@@ -1,4 +1,4 @@
-// What quotes, timed or not, halts, trades, minute ends and a fix leave of a day.
+// What quotes, timed or not, trades and minute ends leave of a day, which they change where it lies.
 #![tactic(auto)]
 
 ghost use Rattle.std.specs.Prelude.{◌≡◌, ◌-◌};
