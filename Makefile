@@ -4,7 +4,8 @@
 # make uninstall
 # make compare DAY=examples/quiet.day.txt     terminal build and server build side by side
 # make fuzz N=100000 SEED=1                   that many generated files against the reference
-# make speed    the run for C against a Rust version of it
+# make speed    the run for C and a close against a Rust version of it, and a trade by value against a copy of the book
+# make stack    how much of an ordinary stack the library's calls and each program take
 
 PREFIX ?= /usr/local
 # What is put before PREFIX where the files are gathered for a package.
@@ -13,7 +14,7 @@ DAY ?= examples/document-01.day.txt
 N ?= 20000
 SEED ?= 1
 
-.PHONY: run test program daytext library install uninstall compare fuzz speed
+.PHONY: run test program daytext library install uninstall compare fuzz speed stack
 
 run: program daytext
 	target-rust/release/daytext encode examples/document-01.day.txt | target/bin/funding_bench
@@ -56,3 +57,6 @@ fuzz: program
 
 speed:
 	benchmarks/run
+
+stack:
+	benchmarks/stack
