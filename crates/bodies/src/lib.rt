@@ -54,12 +54,13 @@ pub fn two_byte_trade_at(file: &[u8], body: usize) -> Trade
     requires { body + 13 ≤ length file.now }
     ensures { result ≡ two_byte_trade_at file.now body }
 {
-    let buyer = two_bytes(file, body);
-    let seller = two_bytes(file, body + 2);
+    let accounts = four_bytes(file, body);
+    let buyer = (accounts >> 16) as u16;
+    let seller = (accounts & 0xffff) as u16;
     trade_between(file, buyer, seller, body + 4)
 }
 
-fn quote_at(file: &[u8], body: usize) -> Market
+pub fn quote_at(file: &[u8], body: usize) -> Market
     requires { body + 8 ≤ length file.now }
     ensures { result ≡ quote_at file.now body }
 {

@@ -53,11 +53,8 @@ impl Market {
     pub fn futures_price(self, last: u32) -> u32
         ensures { result ≡ futures_price self.bid self.offer last }
     {
-        if (last != 0) & (self.bid..=self.offer).contains(&last) {
-            last
-        } else {
-            self.midpoint()
-        }
+        let stands = (last != 0) & (self.bid..=self.offer).contains(&last);
+        std::hint::select_unpredictable(stands, last, self.midpoint())
     }
 
     // Whether the minute that ends with this market and this index is valid. An index is 0 for none, as a side is.

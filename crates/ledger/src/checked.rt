@@ -8,9 +8,12 @@ use crate::Book;
 use calls::{Call, TimedQuote, Trade};
 use figures::Outcome;
 use figures::product::Product;
+use funding::market::Market;
 use refusals::Refusal;
 
-// Any call on a book within its limits.
+// Any call on a book within its limits. It is compiled by itself: a run calls it for rare records, and the loops over the frequent
+// ones have fewer numbers to keep without it.
+#[inline(never)]
 pub(crate) fn step(book: &mut Book, call: Call) -> Outcome
     requires { WithinLimits accounts book.old }
     ensures { answer_of result book.new ≡ step accounts book.old call }
@@ -58,7 +61,13 @@ impl CheckedBook {
         step(&mut self.book, call)
     }
 
-    // Three of them by themselves, which most records of a file are.
+    // Four of them by themselves, which most records of a file are.
+    pub fn quote(&mut self, market: Market) -> Outcome
+        ensures { answer_of result self.new.book ≡ step accounts self.old.book (Call.Quote market) }
+    {
+        outcomes::quote(&mut self.book.figures, market)
+    }
+
     pub fn timed_quote(&mut self, quote: TimedQuote) -> Outcome
         ensures { answer_of result self.new.book ≡ step accounts self.old.book (Call.TimedQuote quote) }
     {

@@ -1,5 +1,5 @@
 -- How a run over a file goes on.
---     joined, in_turn, ends     one part after another, four of them, and where nothing is left of the file
+--     started, joined, ends     a part that plays nothing, one part after another, and where nothing is left of the file
 --     one_call, no_call     what one call leads to, and none
 --     goes_on          past a record, with its call played
 -- Assumes nothing.
@@ -71,12 +71,11 @@ number : (t : Bool) → bool_byte t ≡ cond t 1 0
 number true = refl
 number false = refl
 
+pub started : {file : List ℕ} {b : Book} {count at : ℕ} → count ≤ at → at ≤ length file → Running file b count at b count at
+started fewer inside = record { fewer = fewer; inside = inside; onward = omega arith; book_is = refl; count_is = refl }
+
 pub joined : {file : List ℕ} {start b c : Book} {before from count at count' at' : ℕ} → Running file start before from b count at → Running file b count at c count' at' → Running file start before from c count' at'
 joined r s = record { fewer = s.fewer; inside = s.inside; onward = omega (arith, r.onward, s.onward); book_is = r.book_is ∙ s.book_is; count_is = r.count_is ∙ s.count_is }
-
-pub in_turn : {file : List ℕ} {start a b c d e : Book} {before from n0 at0 n1 at1 n2 at2 n3 at3 n4 at4 : ℕ} → Running file start before from a n0 at0
-    → Running file a n0 at0 b n1 at1 → Running file b n1 at1 c n2 at2 → Running file c n2 at2 d n3 at3 → Running file d n3 at3 e n4 at4 → Running file start before from e n4 at4
-in_turn r first second third fourth = joined (joined (joined (joined r first) second) third) fourth
 
 pub ends : {file : List ℕ} {start b : Book} {count at : ℕ} → Running file start 0 0 b count at → read_at file at ≡ None → record { accepted = count; book = b } ≡ run_over start (calls_of file)
 unfolding run accepted_calls

@@ -1,12 +1,12 @@
-// The records that most of a file is: timed quotes, minute ends and trades of both tags.
+// The records that most of a file is: quotes, timed or not, minute ends and trades of both tags.
 ghost use Rattle.std.specs.Prelude.{◌≡◌, cond, ◌∷◌, [], ◌+◌, ◌≤◌, length};
 ghost use Rattle.tags.specs.declared.Tag.{Tag as Tag·Tag};
-ghost use Rattle.tags.specs.declared.Tag.TheVariants.{MinuteEnd, TimedQuote, Trade, TwoByteTrade};
+ghost use Rattle.tags.specs.declared.Tag.TheVariants.{MinuteEnd, Quote, TimedQuote, Trade, TwoByteTrade};
 ghost use Rattle.tags.specs.Tags.{body_length};
 ghost use Rattle.bodies.specs.Body.{call_of};
 ghost use Rattle.records.specs.Run.{run_over};
 
-use bodies::{four_bytes, timed_quote_at, trade_at, two_byte_trade_at};
+use bodies::{four_bytes, quote_at, timed_quote_at, trade_at, two_byte_trade_at};
 use ledger::checked::CheckedBook;
 use tags::Tag;
 
@@ -23,6 +23,20 @@ pub trait Frequent {
         requires { body + body_length tag ≤ length file.now }
         ensures { record { accepted = cond result 1 0; book = book.new.book }
             ≡ run_over book.old.book (call_of file.now tag body ∷ []) };
+}
+
+pub struct Quotes;
+
+impl Frequent for Quotes {
+    ghost tag = { Quote };
+
+    fn tag() -> Tag {
+        Tag::Quote
+    }
+
+    fn play(book: &mut CheckedBook, file: &[u8], body: usize) -> bool {
+        book.quote(quote_at(file, body)).is_ok()
+    }
 }
 
 pub struct TimedQuotes;

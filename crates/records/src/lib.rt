@@ -7,8 +7,9 @@ ghost use Rattle.records.specs.Run.{run_over, Running};
 
 use calls::Call;
 use dayfile::{HEAD, RecordError, is_record_at, read_record};
-use frequent::{Frequent, MinuteEnds, TimedQuotes, Trades, TwoByteTrades};
+use frequent::{Frequent, MinuteEnds, Quotes, TimedQuotes, Trades, TwoByteTrades};
 use ledger::checked::CheckedBook;
+use tags::Tag;
 
 mod frequent;
 
@@ -19,39 +20,60 @@ struct Progress {
     at: usize,
 }
 
-// Plays the records of one tag that follow one another from a place on.
+// Plays the records of one tag that follow one another from a place on. The first one's test stands before the loop, so that what the
+// compiler works out before a loop is left out with it.
 fn play_all<F: Frequent>(book: &mut CheckedBook, file: &[u8], from: Progress) -> Progress
     requires { (from.accepted ≤ from.at) × (from.at ≤ length file.now) }
     ensures { Running file.now book.old.book from.accepted from.at book.new.book result.accepted result.at }
 {
+    if !is_record_at(file, from.at, F::tag()) {
+        return from;
+    }
     let Progress {
         mut accepted,
         mut at,
     } = from;
     // No iterator: the next part begins where this one stops.
-    while is_record_at(file, at, F::tag()) {
+    loop {
         let body = at + HEAD;
         accepted += u64::from(F::play(book, file, body));
         at = body + F::tag().body_length();
+        if !is_record_at(file, at, F::tag()) {
+            return Progress { accepted, at };
+        }
     }
-    Progress { accepted, at }
 }
 
-// Plays the records of the four frequent tags that follow one another from a place on, in any order.
+// Plays the records of the frequent tag that stands at a place, if one does.
+fn play_next(book: &mut CheckedBook, file: &[u8], from: Progress) -> Progress
+    requires { (from.accepted ≤ from.at) × (from.at ≤ length file.now) }
+    ensures { Running file.now book.old.book from.accepted from.at book.new.book result.accepted result.at }
+{
+    if file.len() <= from.at {
+        return from;
+    }
+    match Tag::try_from(file[from.at]) {
+        Ok(Tag::MinuteEnd) => play_all::<MinuteEnds>(book, file, from),
+        Ok(Tag::TwoByteTrade) => play_all::<TwoByteTrades>(book, file, from),
+        Ok(Tag::Trade) => play_all::<Trades>(book, file, from),
+        Ok(Tag::Quote) => play_all::<Quotes>(book, file, from),
+        Ok(Tag::TimedQuote) => play_all::<TimedQuotes>(book, file, from),
+        _ => from,
+    }
+}
+
+// Plays the records of the frequent tags that follow one another from a place on, in any order.
 fn play_frequent(book: &mut CheckedBook, file: &[u8], from: Progress) -> Progress
     requires { (from.accepted ≤ from.at) × (from.at ≤ length file.now) }
     ensures { Running file.now book.old.book from.accepted from.at book.new.book result.accepted result.at }
 {
     let mut progress = from;
     loop {
-        let ends = play_all::<MinuteEnds>(book, file, progress);
-        let quotes = play_all::<TimedQuotes>(book, file, ends);
-        let trades = play_all::<Trades>(book, file, quotes);
-        let all = play_all::<TwoByteTrades>(book, file, trades);
-        if all.at == progress.at {
-            return all;
+        let next = play_next(book, file, progress);
+        if next.at == progress.at {
+            return next;
         }
-        progress = all;
+        progress = next;
     }
 }
 
@@ -66,8 +88,8 @@ fn play(book: &mut CheckedBook, call: Result<Option<Call>, RecordError>) -> bool
     }
 }
 
-// Runs a book over the records of a file, and answers how many it accepted. Timed quotes, minute ends and trades, which most records
-// are, are played by loops of their own, in which the machine has few numbers to keep.
+// Runs a book over the records of a file, and answers how many it accepted. Quotes, minute ends and trades, which most records are, are
+// played by loops of their own, in which the machine has few numbers to keep.
 pub fn run(book: &mut CheckedBook, file: &[u8]) -> u64
     ensures { record { accepted = result; book = book.new.book } ≡ run_over book.old.book (calls_of file.now) }
 {

@@ -1,29 +1,19 @@
 -- `records::play_frequent` meets its contract.
-use mathlib.Core.Path.{refl}
 use native.Mathlib.Omega.{arith}
-use Rattle.records.proofs.Running.{in_turn}
+use Rattle.records.proofs.Running.{started, joined}
 use Rattle.records.proofs.play_frequent.Goals as goal
 
 pub loop-progress-init : goal.loop-progress-init
-loop-progress-init c = record { fewer = c.requires.0; inside = c.requires.1; onward = omega arith; book_is = refl; count_is = refl }
+loop-progress-init c = started c.requires.0 c.requires.1
 
-pub play_all-ends-requires : goal.play_all-ends-requires
-play_all-ends-requires c = (c.loop-progress.invariant.fewer, c.loop-progress.invariant.inside)
+pub play_next-next-requires : goal.play_next-next-requires
+play_next-next-requires c = (c.loop-progress.invariant.fewer, c.loop-progress.invariant.inside)
 
-pub returns-then-all-progress : goal.returns-then-all-progress
-returns-then-all-progress c = in_turn c.loop-progress.invariant c.play_all-ends.ensures c.play_all-quotes.ensures c.play_all-trades.ensures c.play_all-all.ensures
+pub returns-then-next-progress : goal.returns-then-next-progress
+returns-then-next-progress c = joined c.loop-progress.invariant c.play_next-next.ensures
 
 pub loop-progress-smaller : goal.loop-progress-smaller
-loop-progress-smaller c =
-    omega (
-      arith,
-      c.if-all-progress.false,
-      c.play_all-ends.ensures.onward,
-      c.play_all-quotes.ensures.onward,
-      c.play_all-trades.ensures.onward,
-      c.play_all-all.ensures.onward,
-      c.play_all-all.ensures.inside,
-    )
+loop-progress-smaller c = omega (arith, c.if-next-progress.false, c.play_next-next.ensures.onward, c.play_next-next.ensures.inside)
 
 pub loop-progress-preserved : goal.loop-progress-preserved
-loop-progress-preserved c = in_turn c.loop-progress.invariant c.play_all-ends.ensures c.play_all-quotes.ensures c.play_all-trades.ensures c.play_all-all.ensures
+loop-progress-preserved c = joined c.loop-progress.invariant c.play_next-next.ensures
