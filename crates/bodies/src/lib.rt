@@ -54,6 +54,7 @@ pub fn two_byte_trade_at(file: &[u8], body: usize) -> Trade
     requires { body + 13 ≤ length file.now }
     ensures { result ≡ two_byte_trade_at file.now body }
 {
+    // One number, whose halves are the two: `as`, each has two bytes, and `TryFrom` would have a branch that never comes.
     let accounts = four_bytes(file, body);
     let buyer = (accounts >> 16) as u16;
     let seller = (accounts & 0xffff) as u16;

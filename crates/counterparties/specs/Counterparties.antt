@@ -15,6 +15,10 @@ exchanged l t amount = raise (raise l t.buyer (pos amount)) t.seller (neg_ℤ (p
 abbrev pub counted : List ℕ → Trade → List ℕ
 counted l t = raise_count (raise_count l t.buyer t.quantity) t.seller t.quantity
 
+-- whether both accounts of a trade are among n: 02-5, "An account above 1,023 meets the new refusal 12"
+abbrev pub are_accounts : ℕ → Trade → Bool
+are_accounts n t = ltb t.buyer n && ltb t.seller n
+
 -- 7: "An account's v would pass 2,000,000". It does not where the v of both accounts stays within its limit.
 abbrev pub volume_stays : List ℕ → Trade → Bool
 volume_stays volume t = leb (count_at (counted volume t) t.buyer) most_volume && leb (count_at (counted volume t) t.seller) most_volume
@@ -23,10 +27,6 @@ volume_stays volume t = leb (count_at (counted volume t) t.buyer) most_volume &&
 abbrev pub position_stays : List ℤ → Trade → Bool
 position_stays position t =
     within (entry (exchanged position t t.quantity) t.buyer) most_position && within (entry (exchanged position t t.quantity) t.seller) most_position
-
--- whether both accounts of a trade are among n. 12: 02-5, "An account above 1,023"
-abbrev pub are_accounts : ℕ → Trade → Bool
-are_accounts n t = ltb t.buyer n && ltb t.seller n
 
 -- what n accounts with these positions and v say of a trade
 abbrev pub accounts_of : ℕ → List ℤ → List ℕ → Trade → Accounts

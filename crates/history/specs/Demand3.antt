@@ -44,11 +44,13 @@ pub record Demand3 (n s : ℕ) (cs : List Call) : Type 0 where
   pub position : (j : ℕ) → j < n → entry (after n s cs).columns.position j ≡ net (history n s cs) j
   -- 02-2: "Amounts are compared with that on every day of a book": of a closed day, by the list that ends with its fix
   pub amount : (after n s cs).figures.day.fixed.amount ≡ amount_on s (history n s cs)
+  -- 02-5: "Sums to zero run over all of them"
   pub positions_cancel : total (after n s cs).columns.position ≡ pos 0
   pub cash_cancels : total (after n s cs).columns.cash ≡ pos 0
   pub days_and_today : history n s cs ≡ today (history n s cs) ++ calls_of_days (closings (history n s cs))
   pub closed_days : Every Whole (closings (history n s cs))
 
--- for every number of accounts, every size that the opening accepts and every list of calls: proved in proofs/Demand3.antt
+-- 02-5: "State the account facts over the number of accounts": for every number of accounts, every size that the opening accepts and every list of calls.
+-- Proved in proofs/Demand3.antt
 abbrev pub DemandThree : Type 0
 DemandThree = (n s : ℕ) (cs : List Call) → (opening n s).code ≡ 0 → Demand3 n s cs

@@ -13,7 +13,8 @@ use Rattle.ledger.specs.declared.Book.{Book}
 abbrev pub account_of : Book → ℕ → Bool
 account_of b = holds_at b.figures.closed b.columns
 
--- a book of n accounts is within its limits: 01, "final-minute contracts n at most half the sum of all accounts' v"
+-- a book of n accounts is within its limits: 02-5, "The book's limits hold for each of 1,024 accounts"; 01, "final-minute contracts n at most half the sum of all
+-- accounts' v"
 unfoldable pub within_limits : ℕ → Book → Bool
 within_limits n b = figures_hold b.figures && all_below n (account_of b) && final_holds b.figures.day.trades.settling (sum_below n (count_at b.columns.volume))
 

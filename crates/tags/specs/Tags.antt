@@ -5,7 +5,8 @@ use Rattle.tags.specs.declared.Tag.TheVariants as tag
 
 -- 01: "Tag 1 trade: buyer 1 byte, seller 1, kind 1, quantity 4, price 4. Tag 2 quote: bid 4, offer 4. Tag 3 minute end: 4.
 -- Tag 4 halt, 5 resume, 7 close: 0 bytes. Tag 6 fix: 4. Other tags are unknown."; 02-1: "tag 8 with a two-byte length of day";
--- 02-4: "tag 9: milliseconds into the minute (two bytes, 0 to 59,999), bid, offer"; 02-5: "Tag 10 is a trade with two-byte buyer and seller"
+-- 02-4: "tag 9: milliseconds into the minute (two bytes, 0 to 59,999), bid, offer"; 02-5: "Tag 10 is a trade with two-byte buyer and seller;
+-- tag 1 still reads as before"
 abbrev pub byte_of : Tag → ℕ
 byte_of tag.Trade = 1
 byte_of tag.Quote = 2

@@ -12,7 +12,7 @@ use Rattle.columns.specs.{declared.Columns.Columns, Limits.most_position}
 use Rattle.counterparties.specs.Inner.{most_entry, Exchangeable, Countable}
 use Rattle.trading.specs.Trading.{trade_refusal, traded_columns}
 
--- the entries of both accounts, where these are there, and n and the gross have room for the trade
+-- the entries of both accounts are within bounds, being 0 for one that isn't there, and n and the gross have room for the trade
 pub record Tradable (f : Figures) (c : Columns) (t : Trade) : Type 0 where
   pub positions : Exchangeable c.position t most_position
   pub costs : Exchangeable c.cost t most_entry
