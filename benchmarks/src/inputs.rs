@@ -41,6 +41,7 @@ pub fn all() -> Vec<Input> {
         ),
         few_accounts,
         all_accounts,
+        days("a day with four quotes a minute", 1, untimed_minute),
         day_of_midpoints("a day with four timed quotes a minute", timed_minute),
         days("2,600 days, market quoted", 2_600, quoted_minute),
         days("2,600 days, no market", 2_600, empty_minute),
@@ -144,6 +145,13 @@ fn quoted_minute(file: &mut File, minute: u32) {
 }
 
 fn empty_minute(file: &mut File, _minute: u32) {
+    file.minute_end();
+}
+
+fn untimed_minute(file: &mut File, _minute: u32) {
+    for _ in 0..4 {
+        file.quote();
+    }
     file.minute_end();
 }
 
