@@ -62,6 +62,9 @@ impl ClosedDays {
 
     /// What the account's trades of these days yield, with every amount paid on them.
     pub fn cash(&self, history: &History, account: Account, rules: &dyn CallRules) -> i128 {
+        if !rules.posts_to(account) {
+            return 0;
+        }
         let size = i128::from(history.size);
         let of_contract = |trade: &AccountTrade| {
             rules.gain(trade, self) * size + rules.amounts(trade, self) * CASH_PER_CENT

@@ -235,6 +235,11 @@ pub trait CallRules: Sync {
 
     // Close.
 
+    /// "Per account, cash rises": whether it does for this one.
+    fn posts_to(&self, _account: Account) -> bool {
+        true
+    }
+
     /// "Market and last trade start empty."
     fn start_of_day(&self, _earlier: &[Day]) -> Start {
         Start::default()

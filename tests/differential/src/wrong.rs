@@ -68,7 +68,7 @@ const fn in_files(name: &'static str, files: &'static dyn FileRules) -> WrongLed
 }
 
 /// A static, so that their rules are compiled here alone.
-pub static ALL: [WrongLedger; 186] = [
+pub static ALL: [WrongLedger; 187] = [
     // Rounding.
     in_calls("tie-up", &TieUp),
     in_calls("tie-away-from-zero", &TieAwayFromZero),
@@ -239,6 +239,7 @@ pub static ALL: [WrongLedger; 186] = [
     in_refusals("volume-limit-above-255", &VOLUME_LIMIT_ABOVE_255),
     in_refusals("position-limit-above-255", &POSITION_LIMIT_ABOVE_255),
     in_calls("one-volume-of-a-low-byte", &OneVolumeOfALowByte),
+    in_calls("close-posts-256-accounts", &ClosePosts256Accounts),
     in_files("low-byte-read", &LOW_BYTE_READ),
     in_files("low-byte-below-1024", &LOW_BYTE_BELOW_1024),
     in_files("account-modulo-1024", &ACCOUNT_MODULO_1024),

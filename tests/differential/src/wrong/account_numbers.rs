@@ -1,4 +1,5 @@
-//! Wrong account numbers: which there are, how they are read, what they share, and where they are shown.
+//! Wrong account numbers: which there are, how they are read, what they share, which a close posts to,
+//! and where they are shown.
 
 use crate::wrong::refusals::{moved, CheckMoved, Order};
 use dayformat::tag;
@@ -158,6 +159,15 @@ impl CallRules for OneVolumeOfALowByte {
             .keys()
             .filter(|other| *other % 256 == account % 256);
         alike.map(|other| RightLedger.volume(history, *other)).sum()
+    }
+}
+
+/// The cash of the others stays.
+pub struct ClosePosts256Accounts;
+
+impl CallRules for ClosePosts256Accounts {
+    fn posts_to(&self, account: Account) -> bool {
+        is_of_one_byte(account)
     }
 }
 
