@@ -1,103 +1,13 @@
 //! The accepted calls since the opening, as lists, beside the records that do nothing. Nothing here is
 //! a running sum.
 
+mod day;
+
+pub use day::{Day, NotAccepted};
+
 use crate::call::{Account, Call, Trade};
 use crate::file::Record;
 use std::collections::BTreeMap;
-use std::ops::Range;
-
-/// The accepted calls of one day, in order.
-#[derive(Clone, Debug, Default)]
-pub struct Day {
-    pub calls: Vec<Call>,
-    /// Places of the minute ends among the calls.
-    pub minute_ends: Vec<usize>,
-    /// Place of the fix among the calls.
-    pub fix: Option<usize>,
-    /// Place of the length of day among the calls.
-    pub length_of_day: Option<usize>,
-    /// The records that weren't accepted, in order.
-    pub not_accepted: Vec<NotAccepted>,
-}
-
-#[derive(Clone, Copy, Debug, PartialEq, Eq)]
-pub struct NotAccepted {
-    pub record: Record,
-    /// The place among the calls of its day that comes after it.
-    pub place: usize,
-}
-
-impl Day {
-    /// Adds an accepted call to the list.
-    pub fn add(&mut self, call: Call) {
-        let place = self.calls.len();
-        self.calls.push(call);
-        match call {
-            Call::MinuteEnd(_) => self.minute_ends.push(place),
-            Call::Fix(_) => self.fix = Some(place),
-            Call::LengthOfDay(_) => self.length_of_day = Some(place),
-            _ => {}
-        }
-    }
-
-    pub fn ended_minutes(&self) -> usize {
-        self.minute_ends.len()
-    }
-
-    pub fn is_fixed(&self) -> bool {
-        self.fix.is_some()
-    }
-
-    pub fn set_price(&self) -> Option<u32> {
-        match self.calls[self.fix?] {
-            Call::Fix(set_price) => Some(set_price),
-            _ => None,
-        }
-    }
-
-    pub fn given_length(&self) -> Option<u16> {
-        match self.calls[self.length_of_day?] {
-            Call::LengthOfDay(minutes) => Some(minutes),
-            _ => None,
-        }
-    }
-
-    /// The index of a minute counted from 1, 0 before its end.
-    pub fn index(&self, minute: usize) -> u32 {
-        let minute_end = self.minute_ends.get(minute - 1);
-        match minute_end.map(|place| self.calls[*place]) {
-            Some(Call::MinuteEnd(index)) => index,
-            _ => 0,
-        }
-    }
-
-    /// The calls between the minute end before a minute (counted from 1) and its own, none before its
-    /// end.
-    pub fn calls_of_minute(&self, minute: usize) -> &[Call] {
-        match minute <= self.ended_minutes() {
-            true => &self.calls[self.places_of_minute(minute)],
-            false => &[],
-        }
-    }
-
-    pub fn places_of_minute(&self, minute: usize) -> Range<usize> {
-        self.place_after_minute(minute - 1)..self.minute_ends[minute - 1]
-    }
-
-    /// The calls after the last minute end before a place, up to it. After the day's last minute end
-    /// they are all one minute.
-    pub fn minute_before(&self, place: usize) -> &[Call] {
-        let ended = self.minute_ends.partition_point(|end| *end < place);
-        &self.calls[self.place_after_minute(ended)..place]
-    }
-
-    pub fn place_after_minute(&self, minute: usize) -> usize {
-        match minute {
-            0 => 0,
-            _ => self.minute_ends[minute - 1] + 1,
-        }
-    }
-}
 
 /// A trade as one account's list keeps it.
 #[derive(Clone, Copy, Debug, PartialEq, Eq)]
