@@ -1,23 +1,12 @@
 //! Trades with two-byte accounts: which accounts there are, refusal 12, and what the two tags share.
 
+mod common;
+
+use common::{assert_refusals, printout};
 use dayformat::{tag, Writer};
+use reference::c_run;
+use reference::play::play;
 use reference::rules::Rules;
-use reference::{bench, c_run, run};
-
-fn printout(file: &Writer) -> String {
-    bench(&input(file))
-}
-
-fn input(file: &Writer) -> Vec<u8> {
-    [&[10], &file.bytes[..]].concat()
-}
-
-/// The numbers and places of the refused records.
-fn assert_refusals(file: &Writer, expected: &[(u8, usize)]) {
-    let line = |(number, place): &(u8, usize)| format!("refused {number} record {place}\n");
-    let lines: String = expected.iter().map(line).collect();
-    assert_eq!(printout(file), lines + "end\n");
-}
 
 /// So many trades of 100,000 contracts.
 fn large_trades(file: &mut Writer, accounts: (u16, u16), count: usize) -> &mut Writer {
@@ -97,7 +86,7 @@ fn a_trade_with_refusal_12_does_nothing() {
         .close();
     let expected = "refused 12 record 1\nrefused 12 record 3\n\
                     day 1 price 5010 rate 0 amount 0 valid 0\nend\n";
-    assert_eq!(printout(&file), expected);
+    assert_eq!(printout(10, &file), expected);
 }
 
 #[test]
@@ -131,7 +120,7 @@ fn accounts_are_printed_in_their_order_and_reported_in_lists_of_1_024() {
                     acct 259 net -5 cash 5000\n\
                     acct 1023 net 12 cash -24000\n\
                     end\n";
-    assert_eq!(printout(&file), expected);
+    assert_eq!(printout(10, &file), expected);
     let (mut positions, mut cash) = ([0; 1_024], [0; 1_024]);
     (positions[3], positions[259], positions[1_023]) = (-7, -5, 12);
     (cash[3], cash[259], cash[1_023]) = (19_000, 5_000, -24_000);
@@ -143,7 +132,7 @@ fn accounts_are_printed_in_their_order_and_reported_in_lists_of_1_024() {
 fn lists_of_other_lengths_stay_untouched() {
     let mut file = Writer::new();
     file.two_byte_trade((3, 7), 0, 12, 200_200);
-    let played = run(Rules::RIGHT, &input(&file)).expect("the size is accepted");
+    let played = play(10, &file.bytes, Rules::RIGHT).expect("the size is accepted");
     assert_eq!(played.c_run([1_024, 1_024]).0, 1);
     for other in [0, 255, 256, 1_023, 1_025] {
         for lengths in [[other, 1_024], [1_024, other], [other, other]] {
@@ -183,13 +172,13 @@ fn day(trade: AddTrade) -> Writer {
 #[test]
 fn tag_10_is_tag_1_for_accounts_of_one_byte() {
     let (one, two) = (day(by_tag_1), day(by_tag_10));
-    let text = printout(&one);
+    let text = printout(10, &one);
     assert!(text.starts_with("refused 3 record 2\nrefused 5 record 3\n"));
     assert!(
         text.contains("price 200257 ") && text.contains("acct 255 net 248 "),
         "{text}"
     );
-    assert_eq!(printout(&two), text);
+    assert_eq!(printout(10, &two), text);
     assert_eq!(c_run(10, &two.bytes), c_run(10, &one.bytes));
 }
 

@@ -1,7 +1,9 @@
 //! Settlement by the last minute's midpoints over time. Every price is worked out by hand.
 
+mod common;
+
+use common::printout;
 use dayformat::Writer;
-use reference::bench;
 
 /// A two-sided market with the given midpoint.
 fn around(midpoint: u32) -> (u32, u32) {
@@ -18,15 +20,9 @@ fn timed(file: &mut Writer, time: u16, midpoint: u32) -> &mut Writer {
     file.timed_quote(time, bid, offer)
 }
 
-fn printout(file: &Writer) -> String {
-    let mut input = vec![10];
-    input.extend(&file.bytes);
-    bench(&input)
-}
-
 /// The settlement price of a day without samples, none when it has refusal 9. No other call is refused.
 fn price(file: &Writer) -> Option<u32> {
-    let text = printout(file);
+    let text = printout(10, file);
     let line = text.strip_suffix("\nend\n").expect("the end");
     let price = line
         .strip_prefix("day 1 price ")
@@ -116,7 +112,7 @@ fn a_quote_of_tag_2_counts_at_the_latest_time() {
     quote(&mut file, 200_050).minute_ends(1, 0).fix(0);
     let expected = "refused 6 record 1322\nrefused 5 record 1323\nrefused 5 record 1324\n\
                     day 1 price 200040 rate 0 amount 0 valid 0\nend\n";
-    assert_eq!(printout(&file), expected);
+    assert_eq!(printout(10, &file), expected);
 }
 
 #[test]
@@ -291,22 +287,5 @@ fn midpoints_stand_after_trades_and_before_the_index() {
                     day 4 price 200060 rate -1248128 amount 25 valid 1320\n\
                     day 5 price 200160 rate -1746507 amount 35 valid 1320\n\
                     refused 9 record 7940\nend\n";
-    assert_eq!(printout(&file), expected);
-}
-
-#[test]
-fn a_timed_quote_is_the_market_of_its_minute_and_the_next() {
-    let mut file = Writer::new();
-    file.timed_quote(59_999, 200_100, 200_300)
-        .minute_ends(1, 200_000) // valid
-        .timed_quote(1, 0, 200_300)
-        .minute_ends(1, 200_000) // valid by the minute's market
-        .minute_ends(1, 200_000) // one-sided from its start
-        .timed_quote(1, 200_000, 200_200)
-        .minute_ends(1, 200_000) // 500,000
-        .halt()
-        .minute_ends(1_316, 200_000)
-        .fix(200_000); // (1,000,000 × 3 + 500,000 × 3) / 6
-    let expected = "day 1 price 200000 rate 750000 amount -15 valid 3\nend\n";
-    assert_eq!(printout(&file), expected);
+    assert_eq!(printout(10, &file), expected);
 }

@@ -1,13 +1,10 @@
 //! Printouts and C runs of hand-made files.
 
+mod common;
+
+use common::printout;
 use dayformat::Writer;
 use reference::{bench, c_run};
-
-fn printout(size: u8, file: &Writer) -> String {
-    let mut input = vec![size];
-    input.extend(&file.bytes);
-    bench(&input)
-}
 
 #[test]
 fn the_example_of_document_01() {
@@ -213,4 +210,21 @@ fn halts_and_one_sided_markets() {
         .resume();
     let expected = "day 1 price 200000 rate 250000 amount 0 valid 2\nrefused 4 record 1332\nend\n";
     assert_eq!(printout(1, &file), expected);
+}
+
+#[test]
+fn a_timed_quote_is_the_market_of_its_minute_and_the_next() {
+    let mut file = Writer::new();
+    file.timed_quote(59_999, 200_100, 200_300)
+        .minute_ends(1, 200_000) // valid
+        .timed_quote(1, 0, 200_300)
+        .minute_ends(1, 200_000) // valid by the minute's market
+        .minute_ends(1, 200_000) // one-sided from its start
+        .timed_quote(1, 200_000, 200_200)
+        .minute_ends(1, 200_000) // 500,000
+        .halt()
+        .minute_ends(1_316, 200_000)
+        .fix(200_000); // (1,000,000 × 3 + 500,000 × 3) / 6
+    let expected = "day 1 price 200000 rate 750000 amount -15 valid 3\nend\n";
+    assert_eq!(printout(10, &file), expected);
 }

@@ -1,27 +1,9 @@
 //! Each refusal that a file can meet, at and beyond its limit, and the checking order.
 
+mod common;
+
+use common::assert_refusals;
 use dayformat::Writer;
-use reference::bench;
-
-/// Plays the records on a fresh book and gives the refused ones as (number, place).
-fn refusals(file: &Writer) -> Vec<(u8, usize)> {
-    let mut input = vec![10];
-    input.extend(&file.bytes);
-    bench(&input)
-        .lines()
-        .filter_map(|line| line.strip_prefix("refused "))
-        .map(|line| {
-            let (number, place) = line
-                .split_once(" record ")
-                .expect("a refusal names its record");
-            (number.parse().unwrap(), place.parse().unwrap())
-        })
-        .collect()
-}
-
-fn assert_refusals(file: &Writer, expected: &[(u8, usize)]) {
-    assert_eq!(refusals(file), expected);
-}
 
 #[test]
 fn refusal_3_comes_with_the_state_of_the_day() {

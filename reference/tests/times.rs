@@ -1,21 +1,9 @@
 //! The refusals of timed quotes: 5 by their time, and 11.
 
-use dayformat::Writer;
-use reference::bench;
+mod common;
 
-/// The numbers and places of the refused records.
-fn assert_refusals(file: &Writer, expected: &[(u8, usize)]) {
-    let mut input = vec![10];
-    input.extend(&file.bytes);
-    let line = |(number, place): &(u8, usize)| format!("refused {number} record {place}");
-    let expected: Vec<String> = expected.iter().map(line).collect();
-    let printout = bench(&input);
-    let refused: Vec<&str> = printout
-        .lines()
-        .filter(|line| line.starts_with("refused"))
-        .collect();
-    assert_eq!(refused, expected);
-}
+use common::assert_refusals;
+use dayformat::Writer;
 
 /// A file of timed quotes of one market at these times.
 fn quotes<const N: usize>(file: &mut Writer, times: [u16; N]) -> &mut Writer {
