@@ -24,9 +24,8 @@ impl Writer {
 
     /// A trade whose accounts, buyer and seller, are one byte each.
     pub fn trade(&mut self, accounts: (u8, u8), kind: u8, quantity: u32, price: u32) -> &mut Self {
-        let mut body = vec![accounts.0, accounts.1, kind];
-        body.extend(quantity.to_be_bytes());
-        body.extend(price.to_be_bytes());
+        let accounts = [accounts.0, accounts.1];
+        let body = trade_body(&accounts, kind, quantity, price);
         self.record(tag::TRADE, &body)
     }
 
@@ -38,11 +37,8 @@ impl Writer {
         quantity: u32,
         price: u32,
     ) -> &mut Self {
-        let mut body = accounts.0.to_be_bytes().to_vec();
-        body.extend(accounts.1.to_be_bytes());
-        body.push(kind);
-        body.extend(quantity.to_be_bytes());
-        body.extend(price.to_be_bytes());
+        let accounts = [accounts.0.to_be_bytes(), accounts.1.to_be_bytes()].concat();
+        let body = trade_body(&accounts, kind, quantity, price);
         self.record(tag::TWO_BYTE_TRADE, &body)
     }
 
@@ -85,6 +81,12 @@ impl Writer {
         body.extend(offer.to_be_bytes());
         self.record(tag::TIMED_QUOTE, &body)
     }
+}
+
+/// The accounts are the bytes of buyer and seller.
+fn trade_body(accounts: &[u8], kind: u8, quantity: u32, price: u32) -> Vec<u8> {
+    let (quantity, price) = (quantity.to_be_bytes(), price.to_be_bytes());
+    [accounts, &[kind], &quantity, &price].concat()
 }
 
 #[cfg(test)]
