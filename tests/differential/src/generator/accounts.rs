@@ -9,7 +9,7 @@ use reference::terms::ACCOUNTS;
 /// of another.
 const NAMED: [Account; 8] = [0, 3, 7, 255, 256, 259, 1_022, 1_023];
 /// The first of them have one byte.
-const OF_ONE_BYTE: usize = 4;
+const NAMED_OF_ONE_BYTE: usize = 4;
 
 /// Beside the last one, at the end of two bytes, and with the low byte or the low ten bits of
 /// one that is named.
@@ -34,7 +34,7 @@ impl Generator {
 
     /// Two accounts that differ, often both of one byte.
     pub fn two_accounts(&mut self) -> (Account, Account) {
-        let count = self.random.pick(&[OF_ONE_BYTE, NAMED.len()]) as u32;
+        let count = self.random.pick(&[NAMED_OF_ONE_BYTE, NAMED.len()]) as u32;
         let first = self.random.below(count);
         let second = (first + 1 + self.random.below(count - 1)) % count;
         (NAMED[first as usize], NAMED[second as usize])

@@ -13,10 +13,10 @@ use reference::Lists;
 use std::ops::Range;
 
 /// The accounts of one byte.
-const OF_ONE_BYTE: usize = 256;
+const ONE_BYTE_ACCOUNTS: usize = 256;
 
 fn is_of_one_byte(account: Account) -> bool {
-    usize::from(account) < OF_ONE_BYTE
+    usize::from(account) < ONE_BYTE_ACCOUNTS
 }
 
 /// It has so many accounts.
@@ -30,7 +30,7 @@ impl RefusalRules for Accounts {
 
 pub static ACCOUNT_1023_REFUSED: Accounts = Accounts(ACCOUNTS - 1);
 pub static ACCOUNT_1024_ACCEPTED: Accounts = Accounts(ACCOUNTS + 1);
-pub static ACCOUNTS_ABOVE_255_REFUSED: Accounts = Accounts(OF_ONE_BYTE);
+pub static ACCOUNTS_ABOVE_255_REFUSED: Accounts = Accounts(ONE_BYTE_ACCOUNTS);
 pub static ANY_ACCOUNT_ACCEPTED: Accounts = Accounts(1 << 16);
 
 /// It looks at one of a trade's accounts alone.
@@ -175,7 +175,7 @@ pub struct ClosePrints256Accounts;
 
 impl FileRules for ClosePrints256Accounts {
     fn printed_accounts(&self) -> Range<Account> {
-        0..OF_ONE_BYTE as Account
+        0..ONE_BYTE_ACCOUNTS as Account
     }
 }
 
@@ -185,8 +185,8 @@ pub struct Reports256Accounts;
 impl FileRules for Reports256Accounts {
     fn lists(&self, played: &Played) -> Option<Lists> {
         let (mut positions, mut cash) = played.report();
-        positions[OF_ONE_BYTE..].fill(0);
-        cash[OF_ONE_BYTE..].fill(0);
+        positions[ONE_BYTE_ACCOUNTS..].fill(0);
+        cash[ONE_BYTE_ACCOUNTS..].fill(0);
         Some((positions, cash))
     }
 }
@@ -196,7 +196,7 @@ pub struct ListsOf256Needed;
 
 impl FileRules for ListsOf256Needed {
     fn refuses_list(&self, length: usize) -> bool {
-        length != OF_ONE_BYTE
+        length != ONE_BYTE_ACCOUNTS
     }
 }
 
