@@ -54,7 +54,7 @@ pub fn c_run(size: u8, file: &[u8]) -> (u64, Option<Lists>) {
     c_run_of(play(size, file, Rules::RIGHT).as_ref())
 }
 
-/// What it gives of a run, none when the size is refused.
+/// What C gets of a run, none when the size is refused.
 pub fn c_run_of(played: Option<&Played>) -> (u64, Option<Lists>) {
     played.map_or((0, None), |played| played.c_run([ACCOUNTS; 2]))
 }

@@ -60,7 +60,7 @@ pub trait FileRules: Sync {
         BENCH_LIMIT
     }
 
-    /// 02-5: the accounts are "0 to 1,023": those that a close looks through.
+    /// The accounts that a close looks through. 02-5: "0 to 1,023".
     fn printed_accounts(&self) -> Range<Account> {
         0..ACCOUNTS as Account
     }
