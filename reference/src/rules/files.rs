@@ -45,7 +45,7 @@ pub trait FileRules: Sync {
         matches!(answer, Answer::Accepted(_))
     }
 
-    /// 10, 02-5: "reports need lists of 1,024, else 10": whether one of this length is refused.
+    /// Whether a list of this length is refused. 02-5: "reports need lists of 1,024, else 10".
     fn refuses_list(&self, length: usize) -> bool {
         length != ACCOUNTS
     }
