@@ -1,5 +1,5 @@
 -- A trade, and the fields of its values.
-use Rattle.std.specs.Prelude.{Bool, true, false, cond, not, ◌||◌, ℕ, eqb, ltb}
+use Rattle.std.specs.Prelude.{Bool, true, false, cond, not, ◌&&◌, ◌||◌, ℕ, eqb, leb, ltb}
 use Rattle.prices.specs.Price.{is_price, is_ticked}
 use Rattle.calls.specs.declared.{Kind.Kind, Trade.Trade}
 use Rattle.calls.specs.declared.Kind.TheVariants as kind
@@ -30,3 +30,13 @@ kind_outside kind.Other t = true
 
 abbrev pub trade_outside : Trade → Bool
 trade_outside t = eqb t.quantity 0 || ltb most_quantity t.quantity || not (is_price t.price) || kind_outside t.kind t
+
+-- ---- a set of trades
+
+-- 02-6: "A list of up to 500 trades"
+abbrev pub most_trades : ℕ
+most_trades = 500
+
+-- how many trades a set may have: 02-6, "A set with no trades or over 500 gives the new 13"
+abbrev pub is_set_length : ℕ → Bool
+is_set_length trades = not (eqb trades 0) && leb trades most_trades

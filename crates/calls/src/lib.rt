@@ -2,7 +2,7 @@
 #![tactic(auto)]
 
 ghost use Rattle.std.specs.Prelude.{◌≡◌};
-ghost use Rattle.calls.specs.Trade.{kind_of, trade_outside};
+ghost use Rattle.calls.specs.Trade.{kind_of, trade_outside, is_set_length};
 ghost use Rattle.calls.specs.Length.{is_length};
 
 use funding::MOST_MINUTES;
@@ -11,6 +11,8 @@ use funding::market::Market;
 pub const MOST_QUANTITY: u32 = 100_000;
 
 pub const LEAST_BLOCK: u32 = 250;
+// The trades of a set.
+pub const MOST_TRADES: usize = 500;
 // The lengths of a day, in minutes: an ordinary one, and one that ends early before a holiday.
 pub const FULL_DAY: u32 = MOST_MINUTES;
 
@@ -76,6 +78,13 @@ pub enum Call {
     // the minutes of the day
     DayLength(u32),
     TimedQuote(TimedQuote),
+}
+
+// Whether a set may have so many trades.
+pub fn is_set_length(trades: usize) -> bool
+    ensures { result ≡ is_set_length trades }
+{
+    (trades != 0) & (trades <= MOST_TRADES)
 }
 
 pub fn is_length(minutes: u32) -> bool

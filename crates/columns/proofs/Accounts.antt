@@ -1,5 +1,6 @@
 -- Columns of numbers: what is said of every account, sums over the accounts, and a column's entries.
 --     all_at, all_by     what holds of every account holds of each, and conversely
+--     one_more           what holds of the accounts before one and of it
 --     all_not            what doesn't hold of one account
 --     sum_most           a sum of numbers with a bound
 --     sum_raised         the sum over a column with one entry raised
@@ -11,6 +12,7 @@ use mathlib.Core.List.{List, [], ◌∷◌}
 use mathlib.Core.Logic.{◌⊎◌, ⊎_elim}
 use Prim.Native.Nat.{ℕ, zero, suc, ◌+◌, ◌*◌, ◌<◌, ◌≤◌}
 use native.Mathlib.Nat.{eq-or-lt_of_le}
+use native.Mathlib.Numerals.{add-one}
 use native.Mathlib.Omega.{arith}
 use lib.ListN.{length, get_or}
 use lib.Seq.{get_or-set_same, get_or-set_other}
@@ -26,6 +28,10 @@ all_below_zero p = refl
 pub all_below_suc : (n : ℕ) (p : ℕ → Bool) → all_below (suc n) p ≡ (all_below n p && p n)
 unfolding all_below
 all_below_suc n p = refl
+
+-- the accounts passed and the next one
+pub one_more : (i : ℕ) (p : ℕ → Bool) → all_below i p ≡ true → p i ≡ true → all_below (i + 1) p ≡ true
+one_more i p h k = ap (λ (n : ℕ). all_below n p) (add-one i) ∙ all_below_suc i p ∙ (h and k)
 
 -- the last account, or one before it
 last_or_before : {i n : ℕ} → i < suc n → (i ≡ n) ⊎ (i < n)

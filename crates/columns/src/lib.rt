@@ -5,7 +5,8 @@ ghost use Rattle.std.specs.Prelude.{◌≡◌, ◌<◌, ◌≤◌};
 ghost use Rattle.integers.specs.Size.{within};
 ghost use Rattle.refusals.specs.Refusals.{most_days};
 ghost use Rattle.columns.specs.Columns.{accounts, account_at, count_at, zero_columns, all_below, sum_below};
-ghost use Rattle.columns.specs.Limits.{most_position, account_holds, holds_at};
+ghost use Rattle.columns.specs.Limits.{most_position, account_holds, holds_at, volume_holds};
+ghost use Rattle.columns.specs.Limits.{position_holds as Limits·position_holds};
 
 use integers::is_within;
 use prices::LARGEST_PRICE;
@@ -96,6 +97,29 @@ impl Columns {
     {
         for i in 0..ACCOUNTS {
             if !self.account(i).holds(closed) {
+                return false;
+            }
+        }
+        true
+    }
+
+    // Whether every account's v is within its limit, and every account's position.
+    pub fn volumes_hold(&self) -> bool
+        ensures { result ≡ all_below accounts (volume_holds self.now.volume) }
+    {
+        for i in 0..ACCOUNTS {
+            if MOST_VOLUME < self.volume[i] {
+                return false;
+            }
+        }
+        true
+    }
+
+    pub fn positions_hold(&self) -> bool
+        ensures { result ≡ all_below accounts (Limits·position_holds self.now.position) }
+    {
+        for i in 0..ACCOUNTS {
+            if !position_holds(self.position[i]) {
                 return false;
             }
         }

@@ -1,11 +1,10 @@
 -- What a trade does to the account columns, and 12, 7 and 8: document 01, "A trade date, call by call".
 use mathlib.Core.{Bool.Bool, Bool.not, Bool.◌&&◌, List.List}
 use Rattle.std.specs.Prelude.{ℕ}
-use lib.{Dec.leb, Dec.ltb, IntN.ℤ, IntN.pos, IntN.neg_ℤ}
-use Rattle.integers.specs.Size.{within}
+use lib.{Dec.ltb, IntN.ℤ, IntN.pos, IntN.neg_ℤ}
 use Rattle.calls.specs.declared.Trade.{Trade}
 use Rattle.refusals.specs.Refusals.{Accounts}
-use Rattle.columns.specs.{Columns.count_at, Columns.entry, Columns.raise, Columns.raise_count, Limits.most_position, Limits.most_volume}
+use Rattle.columns.specs.{Columns.raise, Columns.raise_count, Limits.volume_holds, Limits.position_holds}
 
 -- 01: "The buyer's position rises by the quantity and its cost by quantity × price; the seller's fall by the same": the seller's entry is read after the buyer's is written
 abbrev pub exchanged : List ℤ → Trade → ℕ → List ℤ
@@ -21,12 +20,11 @@ are_accounts n t = ltb t.buyer n && ltb t.seller n
 
 -- 7: "An account's v would pass 2,000,000". It does not where the v of both accounts stays within its limit.
 abbrev pub volume_stays : List ℕ → Trade → Bool
-volume_stays volume t = leb (count_at (counted volume t) t.buyer) most_volume && leb (count_at (counted volume t) t.seller) most_volume
+volume_stays volume t = volume_holds (counted volume t) t.buyer && volume_holds (counted volume t) t.seller
 
 -- 8: "A position would pass ±1,200,000"
 abbrev pub position_stays : List ℤ → Trade → Bool
-position_stays position t =
-    within (entry (exchanged position t t.quantity) t.buyer) most_position && within (entry (exchanged position t t.quantity) t.seller) most_position
+position_stays position t = let after = exchanged position t t.quantity in position_holds after t.buyer && position_holds after t.seller
 
 -- what n accounts with these positions and v say of a trade
 abbrev pub accounts_of : ℕ → List ℤ → List ℕ → Trade → Accounts

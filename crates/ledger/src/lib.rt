@@ -8,6 +8,7 @@ ghost use Rattle.ledger.specs.Refusals.{within_limits};
 ghost use Rattle.ledger.specs.Step.{answer_of, empty_book, report_refusal, reported};
 ghost use Rattle.ledger.specs.Step.{opening as Step·opening};
 ghost use Rattle.ledger.specs.Step.{step as Step·step};
+ghost use Rattle.ledger.specs.Sets.{trade_set as Sets·trade_set};
 
 use calls::{Call, TimedQuote, Trade};
 use checked::step;
@@ -18,6 +19,7 @@ use funding::market::Market;
 use refusals::Refusal;
 
 pub mod checked;
+mod set;
 
 // A contract's book.
 #[derive(Clone, Copy)]
@@ -145,6 +147,22 @@ impl Book {
         ensures { answer_of result.outcome result.book ≡ Step·step accounts self (Call.TimedQuote quote) }
     {
         self.step(Call::TimedQuote(quote))
+    }
+
+    // A list of trades, accepted whole or not at all. A book that is refused has been copied: the trades change the copy.
+    pub fn trade_set(self, trades: &[Trade]) -> Answer
+        ensures { answer_of result.outcome result.book ≡ Sets·trade_set accounts self trades.now }
+    {
+        match set::book_with(self, trades) {
+            Ok(book) => Answer {
+                outcome: Ok(None),
+                book,
+            },
+            Err(refusal) => Answer {
+                outcome: Err(refusal),
+                book: self,
+            },
+        }
     }
 
     // Entry j of the lists becomes account j's position and cash. Refusals 2 and 10 leave the lists as they are. They are two, which

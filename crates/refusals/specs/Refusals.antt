@@ -1,4 +1,4 @@
--- Refusals 3 to 9, 11 and 12, in checking order: a number comes if its sentence is met, and only then.
+-- The number of each refusal, and of a call 3 to 9, 11 and 12 in checking order: a number comes if its sentence is met, and only then.
 use mathlib.Core.{Path.◌≡◌, Bool.Bool, Bool.false, Bool.not, Bool.cond, Bool.◌&&◌, Bool.◌||◌, List.List, List.[], List.◌∷◌}
 use Rattle.std.specs.Prelude.{ℕ, leb, ltb, Result, Ok, Err}
 use Rattle.prices.specs.Price.{is_present, none_or_price, none_or_ticked}
@@ -21,6 +21,7 @@ number refusal.Unpriced = 9
 number refusal.Lists = 10
 number refusal.Time = 11
 number refusal.Account = 12
+number refusal.SetLength = 13
 
 -- no two refusals have one number, so that a number says which one it is: proved in proofs/Numbers.antt
 abbrev pub OwnNumbers : Type 0

@@ -1,12 +1,14 @@
-// Which refusal a call meets, by its values and what the book says of it: refusals 3 to 9, 11 and 12, where its accounts give none.
+// Which refusal a call or a set of trades meets, by its values and what the book says of it: refusals 3 to 9 and 11 to 13, where its accounts
+// give none.
 #![tactic(auto)]
 
 ghost use Rattle.std.specs.Prelude.{◌≡◌, false, cond, Ok, Err};
-ghost use Rattle.refusals.specs.Refusals.{is_full, number_of, sides_outside, timed_quote_outside, refusal_by};
+ghost use Rattle.refusals.specs.Refusals.{is_full, number_of, sides_outside, timed_quote_outside, refusal_by, first_met};
+ghost use Rattle.refusals.specs.Sets.{set_sentences};
 ghost use Rattle.refusals.specs.Refusals.{first_sentences as Refusals·first_sentences};
 ghost use Rattle.refusals.specs.Refusals.{number as Refusals·number};
 
-use calls::{Call, MOST_TIME, TimedQuote, Trade, is_length};
+use calls::{Call, MOST_TIME, TimedQuote, Trade, is_length, is_set_length};
 use funding::market::Market;
 use prices::{none_or_price, none_or_ticked};
 
@@ -27,6 +29,7 @@ pub enum Refusal {
     Lists,
     Time,
     Account,
+    SetLength,
 }
 
 // Documents 01 and 02's number.
@@ -47,6 +50,7 @@ impl From<Refusal> for u8 {
             Refusal::Lists => 10,
             Refusal::Time => 11,
             Refusal::Account => 12,
+            Refusal::SetLength => 13,
         }
     }
 }
@@ -115,6 +119,14 @@ pub fn trade(closed: u32, halted: bool, t: Trade) -> Result<(), Refusal>
     ensures { number_of result ≡ refusal_by closed false halted 0 0 (Call.Trade t) }
 {
     first_sentences(closed, false, halted, t.is_outside())
+}
+
+// The refusal of a set of so many trades, before any of them is looked at.
+pub fn trade_set(closed: u32, halted: bool, trades: usize) -> Result<(), Refusal>
+    ensures { number_of result ≡ first_met (set_sentences closed halted trades) }
+{
+    first_sentences(closed, false, halted, false)?;
+    Refusal::SetLength.when(!is_set_length(trades))
 }
 
 pub fn halt(closed: u32, halted: bool) -> Result<(), Refusal>

@@ -1,13 +1,14 @@
-// A trade, on the lent figures and columns of a book: they are two values, since the book stands with its calls, in a crate above.
+// A trade, by itself or in a set, on the lent figures and columns of a book: they are two values, since the book stands with its calls, in
+// a crate above.
 #![tactic(auto, unfolding(outcomes::specs::Effects::fixing_of))]
 
 ghost use Rattle.std.specs.Prelude.{◌≡◌};
-ghost use Rattle.refusals.specs.Refusals.{number_of};
+ghost use Rattle.refusals.specs.Refusals.{first_met, number_of};
 ghost use Rattle.columns.specs.Columns.{accounts};
 ghost use Rattle.columns.specs.Limits.{most_position};
-ghost use Rattle.counterparties.specs.Inner.{Exchangeable, Countable};
-ghost use Rattle.trading.specs.Trading.{trade_refusal};
-ghost use Rattle.trading.specs.Inner.{Tradable, TradeAnswered};
+ghost use Rattle.counterparties.specs.Inner.{most_entry, Exchangeable, Countable};
+ghost use Rattle.trading.specs.Trading.{own_sentences, trade_refusal};
+ghost use Rattle.trading.specs.Inner.{Passes, SetTradeAnswered, Tradable, TradeAnswered, TradeBooked};
 
 use calls::Trade;
 use columns::Columns;
@@ -27,16 +28,42 @@ fn test(figures: &Figures, columns: &Columns, t: Trade) -> Result<(), Refusal>
     Refusal::Position.when(!position_stays(&columns.position, t))
 }
 
-// Any trade: a refusal, which leaves figures and columns as they are, or both changed.
-pub fn trade(figures: &mut Figures, columns: &mut Columns, t: Trade) -> Outcome
-    requires { Tradable figures.old columns.old t }
-    ensures { TradeAnswered accounts figures.old columns.old t result figures.new columns.new }
+// The refusal of a trade of a set, which no limit of its accounts gives.
+fn test_by_itself(t: Trade) -> Result<(), Refusal>
+    ensures { number_of result ≡ first_met (own_sentences accounts t) }
 {
-    test(figures, columns, t)?;
+    Refusal::Field.when(t.is_outside())?;
+    Refusal::Account.when(!are_accounts(t))
+}
+
+// Figures and columns with an accepted trade.
+fn book(figures: &mut Figures, columns: &mut Columns, t: Trade)
+    requires { Tradable figures.old columns.old t most_entry × Passes accounts t }
+    ensures { TradeBooked figures.old columns.old t figures.new columns.new }
+{
     let quantity = u64::from(t.quantity);
     exchange(&mut columns.position, t, quantity);
     count(&mut columns.volume, t);
     exchange(&mut columns.cost, t, quantity * u64::from(t.price));
     outcomes::traded(figures, t);
+}
+
+// Any trade: a refusal, which leaves figures and columns as they are, or both changed.
+pub fn trade(figures: &mut Figures, columns: &mut Columns, t: Trade) -> Outcome
+    requires { Tradable figures.old columns.old t most_position }
+    ensures { TradeAnswered accounts figures.old columns.old t result figures.new columns.new }
+{
+    test(figures, columns, t)?;
+    book(figures, columns, t);
     Ok(None)
+}
+
+// Any trade of a set likewise. The limits of its accounts are looked at after the last one.
+pub fn trade_in_set(figures: &mut Figures, columns: &mut Columns, t: Trade) -> Result<(), Refusal>
+    requires { Tradable figures.old columns.old t most_entry }
+    ensures { SetTradeAnswered accounts figures.old columns.old t result figures.new columns.new }
+{
+    test_by_itself(t)?;
+    book(figures, columns, t);
+    Ok(())
 }

@@ -1,13 +1,10 @@
 -- `Columns::hold` meets its contract. The loop's invariant: the accounts passed hold.
-use mathlib.Core.Path.{◌≡◌, sym, ◌∙◌, ap}
-use mathlib.Core.Bool.{true}
-use Prim.Native.Nat.{ℕ, ◌<◌}
-use native.Mathlib.Numerals.{add-one}
+use mathlib.Core.Path.{sym, ◌∙◌, ap}
+use Prim.Native.Nat.{◌<◌}
 use borrow.Author.Rules.{rules}
-use Rattle.integers.proofs.Tests.{◌and◌}
-use Rattle.columns.specs.Columns.{accounts, all_below}
+use Rattle.columns.specs.Columns.{accounts}
 use Rattle.columns.specs.Limits.{holds_at, account_holds}
-use Rattle.columns.proofs.Accounts.{all_below_zero, all_below_suc, all_not}
+use Rattle.columns.proofs.Accounts.{all_below_zero, all_not, one_more}
 use Rattle.columns.proofs.Columns.hold.Goals as goal
 
 pub loop-i-init : goal.loop-i-init
@@ -24,6 +21,4 @@ pub loop-i-preserved : goal.loop-i-preserved
 loop-i-preserved c =
     let a = c.args in
     let i = c.loop-i.i in
-    let p = holds_at a.closed a.self.now in
-    let h : p i ≡ true = sym (c.holds.ensures ∙ ap (account_holds a.closed) c.account.ensures) ∙ c.if-not-holds.false in
-    ap (λ (n : ℕ). all_below n p) (add-one i) ∙ all_below_suc i p ∙ (c.loop-i.invariant and h)
+    one_more i (holds_at a.closed a.self.now) c.loop-i.invariant (sym (c.holds.ensures ∙ ap (account_holds a.closed) c.account.ensures) ∙ c.if-not-holds.false)

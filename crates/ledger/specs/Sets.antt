@@ -1,0 +1,39 @@
+-- A set of trades on a book of n accounts: document 02, request 6, "Allocations taken as a set".
+use mathlib.Core.{Bool.Bool, Bool.cond, Bool.not, List.List, List.[], List.◌∷◌, List.◌++◌}
+use Rattle.std.specs.Prelude.{ℕ, None, length}
+use lib.Dec.{eqb}
+use Rattle.calls.specs.declared.Call.TheVariants as call
+use Rattle.calls.specs.declared.Trade.{Trade}
+use Rattle.refusals.specs.{Refusals.first_met, Sets.set_sentences}
+use Rattle.columns.specs.{declared.Columns.Columns, Columns.all_below, Limits.volume_holds, Limits.position_holds}
+use Rattle.trading.specs.Trading.{own_sentences}
+use Rattle.ledger.specs.{declared.Book.Book, Effects.effect, Refusals.within_limits, Step.Answered}
+
+-- the book after these trades: 02-6, "what its trades would leave one by one, with those two limits lifted until the end"
+unfoldable pub set_effect : ℕ → Book → List Trade → Book
+set_effect n b [] = b
+set_effect n b (t ∷ ts) = set_effect n (effect n b (call.Trade t)) ts
+
+-- each trade's own sentences: 02-6, "the first in list order that doesn't gives its number"
+unfoldable pub trade_sentences : ℕ → List Trade → List (ℕ × Bool)
+trade_sentences n [] = []
+trade_sentences n (t ∷ ts) = own_sentences n t ++ trade_sentences n ts
+
+-- 02-6: "and only then come 7 and 8 on the final state": of every account, and 7 first
+abbrev pub final_sentences : ℕ → Columns → List (ℕ × Bool)
+final_sentences n c = (7, not (all_below n (volume_holds c.volume))) ∷ (8, not (all_below n (position_holds c.position))) ∷ []
+
+-- the number of a set's refusal
+unfoldable pub set_refusal : ℕ → Book → List Trade → ℕ
+set_refusal n b ts =
+    first_met
+    ((2, not (within_limits n b))
+    ∷ set_sentences b.figures.closed b.figures.halted (length ts)
+    ++ trade_sentences n ts
+    ++ final_sentences n (set_effect n b ts).columns)
+
+-- the answer to a set: 02-6, it "is accepted whole or not at all"
+unfoldable pub trade_set : ℕ → Book → List Trade → Answered
+trade_set n b ts =
+    let number = set_refusal n b ts in
+    record { code = number; fixing = None; book = cond (eqb number 0) (set_effect n b ts) b }
