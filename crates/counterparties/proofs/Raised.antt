@@ -1,5 +1,6 @@
 -- Entries of a column after one or two of them are raised.
---     entry_raised   how far an entry rises where one is raised
+--     entry_raised, count_raised   how far an entry rises where one is raised
+--     exchanged_most, counted_most     and by a trade
 --     buyer_entry, seller_entry     those of a trade's two accounts, which may be one
 --     untouched      those of the other accounts;  of_each  what holds of all three holds of each
 --     cost_raised    a cost within its contracts at the largest price stays so
@@ -16,9 +17,11 @@ use lib.IntN.{ℤ, pos, neg_ℤ, nat_abs, ◌+ℤ◌, ◌-ℤ◌, +ℤ_assoc, +�
 use lib.ListN.{length, get_or, set, length-set}
 use lib.Seq.{get_or-set_same, get_or-set_other}
 use borrow.Author.Tests.{eqb-true, eqb-false}
-use Rattle.integers.proofs.Sizes.{abs_add}
+use Rattle.integers.proofs.Sizes.{abs_add, abs_neg}
 use Rattle.prices.specs.Price.{largest_price}
+use Rattle.calls.specs.declared.Trade.{Trade}
 use Rattle.columns.specs.Columns.{entry, count_at, raise, raise_count}
+use Rattle.counterparties.specs.Counterparties.{exchanged, counted}
 
 -- ---- one entry raised
 
@@ -34,6 +37,10 @@ stored (x ∷ l) (suc j) (suc i) a d = ⊎_elim (λ w. inl (ap suc w.0, w.1)) (�
 pub entry_raised : (l : List ℤ) (j i : ℕ) (z : ℤ) → nat_abs (entry (raise l j z) i) ≤ nat_abs (entry l i) + nat_abs z
 entry_raised l j i z =
     ⊎_elim (λ w. omega (arith, ap nat_abs (w.1 ∙ ap (λ k. entry l k +ℤ z) (sym w.0)), abs_add (entry l i) z)) (λ w. omega (arith, ap nat_abs w)) (stored l j i (entry l j +ℤ z) (pos 0))
+
+pub count_raised : (l : List ℕ) (j i q : ℕ) → count_at (raise_count l j q) i ≤ count_at l i + q
+count_raised l j i q =
+    ⊎_elim (λ w. omega (arith, w.1, ap (count_at l) w.0)) (λ w. omega (arith, w)) (stored l j i (count_at l j + q) 0)
 
 -- a cost within the contracts at the largest price stays so where both are raised
 pub cost_raised : (l : List ℤ) (v : List ℕ) (j i q : ℕ) (z : ℤ) → j < length l → j < length v → nat_abs z ≤ q * largest_price → nat_abs (entry l i) ≤ count_at v i * largest_price → nat_abs (entry (raise l j z) i) ≤ count_at (raise_count v j q) i * largest_price
@@ -73,6 +80,14 @@ module _ (l : List ℤ) (b s : ℕ) (q : ℕ) (hb : b < length l) (hs : s < leng
       (λ e. subst (λ (i : ℕ). entry (raise (raise l i (pos q)) s (neg_ℤ (pos q))) s ≡ entry l s -ℤ pos 0) (sym e) (back s hs ∙ sym (+ℤ_idr (entry l s))))
       (λ f. get_or-set_same (raise l b (pos q)) s (entry (raise l b (pos q)) s +ℤ neg_ℤ (pos q)) (pos 0) (rw length-set hs)
       ∙ ap (λ z. z +ℤ neg_ℤ (pos q)) (get_or-set_other l b s (entry l b +ℤ pos q) (pos 0) (λ e. f (sym e))))
+
+-- no entry moves by more than both sides of it
+pub exchanged_most : (l : List ℤ) (t : Trade) (a j : ℕ) → nat_abs (entry (exchanged l t a) j) ≤ nat_abs (entry l j) + 2 * a
+exchanged_most l t a j =
+    omega (arith, entry_raised (raise l t.buyer (pos a)) t.seller j (neg_ℤ (pos a)), entry_raised l t.buyer j (pos a), abs_neg (pos a))
+
+pub counted_most : (l : List ℕ) (t : Trade) (j : ℕ) → count_at (counted l t) j ≤ count_at l j + 2 * t.quantity
+counted_most l t j = omega (arith, count_raised (raise_count l t.buyer t.quantity) t.seller j t.quantity, count_raised l t.buyer j t.quantity)
 
 -- ---- the other accounts
 

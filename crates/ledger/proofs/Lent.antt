@@ -1,4 +1,5 @@
 -- What a book within its limits gives the inner layer.
+--     position_any, cost_any, volume_any     the entries of any account
 --     tradable, figures_held, fixable, closable     what its functions require
 --     step_within                                   refusal 2 passes
 --     on_figures, trade-answered, close-answered  the answer to a call that touches no account, to a trade and to a close, from its parts;
@@ -8,7 +9,7 @@ use mathlib.Core.Path.{◌≡◌, refl, sym, ◌∙◌, ap, subst}
 use mathlib.Core.Bool.{Bool, true, false, cond}
 use mathlib.Core.List.{List}
 use mathlib.Core.Logic.{⊎_elim}
-use Prim.Native.Nat.{ℕ, ◌+◌, ◌*◌, ◌^◌, ◌<◌, ◌≤◌}
+use Prim.Native.Nat.{ℕ, ◌*◌, ◌<◌, ◌≤◌}
 use native.Mathlib.Omega.{arith}
 use lib.Dec.{eqb}
 use lib.IntN.{pos, nat_abs}
@@ -18,7 +19,6 @@ use Rattle.std.proofs.lemmas.List.{get_or_past}
 use Rattle.prices.specs.Price.{largest_price}
 use Rattle.calls.specs.declared.Call.TheVariants as call
 use Rattle.calls.specs.declared.Trade.{Trade}
-use Rattle.calls.specs.Trade.{most_quantity}
 use Rattle.calls.specs.declared.Call.{Call}
 use Rattle.outcomes.specs.Effects.{figures_after}
 use Rattle.refusals.specs.Refusals.{first_met}
@@ -27,7 +27,6 @@ use Rattle.figures.specs.Fixing.{Fixable}
 use Rattle.figures.proofs.Held.{figures_hold-held, size_most}
 use Rattle.columns.specs.Columns.{accounts, count_at, entry}
 use Rattle.columns.specs.Limits.{most_position, most_volume}
-use Rattle.counterparties.specs.Inner.{most_entry}
 use Rattle.closing.specs.Closing.{closed_columns}
 use Rattle.closing.specs.Inner.{Closable, CloseAnswered}
 use Rattle.trading.specs.Trading.{trade_refusal, traded_columns}
@@ -60,27 +59,26 @@ module _ (b : Book) (w : WithinLimits accounts b) where
   cost_most : (j : ℕ) → j < accounts → nat_abs (entry b.columns.cost j) ≤ most_volume * largest_price
   cost_most j h = let a = holds.account j h in omega (arith, a.cost, a.volume)
 
-  -- an account that isn't there has nothing
-  pub tradable : (t : Trade) → Tradable b.figures b.columns t
+  -- the entries of any account: one that isn't there has nothing
+  pub position_any : (j : ℕ) → nat_abs (entry b.columns.position j) ≤ most_position
+  position_any j =
+      at_any b.columns.position j (pos 0) (λ z. nat_abs z ≤ most_position) (omega arith) (λ h. (holds.account j (rw (← w.shaped.position) h)).position)
+
+  pub cost_any : (j : ℕ) → nat_abs (entry b.columns.cost j) ≤ most_volume * largest_price
+  cost_any j = at_any b.columns.cost j (pos 0) (λ z. nat_abs z ≤ most_volume * largest_price) (omega arith) (λ h. cost_most j (rw (← w.shaped.cost) h))
+
+  pub volume_any : (j : ℕ) → count_at b.columns.volume j ≤ most_volume
+  volume_any j = at_any b.columns.volume j 0 (λ v. v ≤ most_volume) (omega arith) (λ h. (holds.account j (rw (← w.shaped.volume) h)).volume)
+
+  pub tradable : (t : Trade) → Tradable b.figures b.columns t most_position
   tradable t =
       record {
-        positions = record { buyer = position t.buyer; seller = position t.seller };
-        costs = record { buyer = cost t.buyer; seller = cost t.seller };
-        volumes = record { buyer = volume t.buyer; seller = volume t.seller };
+        positions = record { buyer = position_any t.buyer; seller = position_any t.seller };
+        costs = record { buyer = omega (arith, cost_any t.buyer); seller = omega (arith, cost_any t.seller) };
+        volumes = record { buyer = omega (arith, volume_any t.buyer); seller = omega (arith, volume_any t.seller) };
         contracts = omega (arith, contracts_most accounts b holds);
         gross = omega (arith, contracts_most accounts b holds, holds.final.gross.high);
       }
-    where
-      position : (j : ℕ) → nat_abs (entry b.columns.position j) ≤ most_position
-      position j =
-          at_any b.columns.position j (pos 0) (λ z. nat_abs z ≤ most_position) (omega arith) (λ h. (holds.account j (rw (← w.shaped.position) h)).position)
-
-      cost : (j : ℕ) → nat_abs (entry b.columns.cost j) ≤ most_entry
-      cost j = at_any b.columns.cost j (pos 0) (λ z. nat_abs z ≤ most_entry) (omega arith) (λ h. omega (arith, cost_most j (rw (← w.shaped.cost) h)))
-
-      volume : (j : ℕ) → count_at b.columns.volume j + (most_quantity + most_quantity) < 2 ^ 32
-      volume j =
-          at_any b.columns.volume j 0 (λ v. v + (most_quantity + most_quantity) < 2 ^ 32) (omega arith) (λ h. omega (arith, (holds.account j (rw (← w.shaped.volume) h)).volume))
 
   pub figures_held : figures_hold b.figures ≡ true
   figures_held = figures_hold-held b.figures holds.figures

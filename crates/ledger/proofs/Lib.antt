@@ -4,3 +4,5 @@ pub mod KeepingTrade
 pub mod KeepingClose
 pub mod Keeping
 pub mod Lent
+pub mod Booking
+pub mod SetRefusal

@@ -14,6 +14,10 @@ unfoldable pub set_effect : ℕ → Book → List Trade → Book
 set_effect n b [] = b
 set_effect n b (t ∷ ts) = set_effect n (effect n b (call.Trade t)) ts
 
+-- the sentences of a set of so many trades: refusal 2, and then what the figures say
+abbrev pub opening_sentences : ℕ → Book → ℕ → List (ℕ × Bool)
+opening_sentences n b trades = (2, not (within_limits n b)) ∷ set_sentences b.figures.closed b.figures.halted trades
+
 -- each trade's own sentences: 02-6, "the first in list order that doesn't gives its number"
 unfoldable pub trade_sentences : ℕ → List Trade → List (ℕ × Bool)
 trade_sentences n [] = []
@@ -26,11 +30,7 @@ final_sentences n c = (7, not (all_below n (volume_holds c.volume))) ∷ (8, not
 -- the number of a set's refusal
 unfoldable pub set_refusal : ℕ → Book → List Trade → ℕ
 set_refusal n b ts =
-    first_met
-    ((2, not (within_limits n b))
-    ∷ set_sentences b.figures.closed b.figures.halted (length ts)
-    ++ trade_sentences n ts
-    ++ final_sentences n (set_effect n b ts).columns)
+    first_met (opening_sentences n b (length ts) ++ trade_sentences n ts ++ final_sentences n (set_effect n b ts).columns)
 
 -- the answer to a set: 02-6, it "is accepted whole or not at all"
 unfoldable pub trade_set : ℕ → Book → List Trade → Answered

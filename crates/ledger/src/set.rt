@@ -3,7 +3,7 @@ ghost use Rattle.std.specs.Prelude.{◌≡◌, length};
 ghost use Rattle.refusals.specs.Refusals.{first_met, number_of};
 ghost use Rattle.columns.specs.Columns.{accounts};
 ghost use Rattle.ledger.specs.Inner.{Room, SetBooked, set_answer};
-ghost use Rattle.ledger.specs.Sets.{final_sentences, trade_set};
+ghost use Rattle.ledger.specs.Sets.{opening_sentences, final_sentences, trade_set};
 
 use crate::Book;
 use calls::Trade;
@@ -21,6 +21,14 @@ fn book_trades(book: &mut Book, trades: &[Trade]) -> Result<(), Refusal>
     Ok(())
 }
 
+// The refusal of a set of so many trades, before any of them is looked at.
+fn test_set(book: &Book, trades: usize) -> Result<(), Refusal>
+    ensures { number_of result ≡ first_met (opening_sentences accounts book.now trades) }
+{
+    Refusal::Limits.when(!book.is_within_limits())?;
+    refusals::trade_set(book.figures.closed, book.figures.halted, trades)
+}
+
 // The refusal of a set whose trades lead to these columns.
 fn test_accounts(columns: &Columns) -> Result<(), Refusal>
     ensures { number_of result ≡ first_met (final_sentences accounts columns.now) }
@@ -33,8 +41,7 @@ fn test_accounts(columns: &Columns) -> Result<(), Refusal>
 pub(crate) fn book_with(book: Book, trades: &[Trade]) -> Result<Book, Refusal>
     ensures { set_answer book result ≡ trade_set accounts book trades.now }
 {
-    Refusal::Limits.when(!book.is_within_limits())?;
-    refusals::trade_set(book.figures.closed, book.figures.halted, trades.len())?;
+    test_set(&book, trades.len())?;
     let mut after = book;
     book_trades(&mut after, trades)?;
     test_accounts(&after.columns)?;

@@ -2,14 +2,16 @@
 --     passed       the sentences, by name
 --     unmet        of a list of sentences that gives no number, none is met
 --     never_met    a number that stands nowhere in a list never comes of it
+--     first_of_both, none_of_both     of one list after another
 -- Assumes nothing.
 use mathlib.Core.Path.{◌≡◌, refl, sym, ◌∙◌}
-use mathlib.Core.Bool.{Bool, true, false, not, ◌&&◌, true≢false}
-use mathlib.Core.List.{List, [], ◌∷◌}
+use mathlib.Core.Bool.{Bool, true, false, not, cond, ◌&&◌, true≢false}
+use mathlib.Core.List.{List, [], ◌∷◌, ◌++◌}
 use Prim.Native.Nat.{ℕ, zero, suc}
 use lib.Dec.{eqb}
-use borrow.Author.Tests.{eq-eqb}
+use borrow.Author.Tests.{eq-eqb, not-true}
 use Rattle.std.proofs.lemmas.Bool.{and_parts, or_parts}
+use Rattle.integers.proofs.Tests.{◌and◌}
 use Rattle.calls.specs.declared.Call.{Call}
 use Rattle.refusals.specs.Refusals.{is_full, halt_forbids, outside_field, runs_back, crossed, unpriced, Accounts, sentences, first_met}
 
@@ -60,3 +62,16 @@ passed closed forbidden halted latest price c a h =
     let u = unmet (sentences closed forbidden halted latest price c a) refl h in
     let days = or_parts (is_full closed) forbidden (u 0) in
     record { full = days.0; day = days.1; halt = u 1; field = u 2; time = u 3; market = u 4; accounts = u 5; volume = u 6; position = u 7; price = u 8 }
+
+-- ---- one list after another
+
+pub first_of_both : (xs ys : List (ℕ × Bool)) → is_none 0 xs ≡ true → first_met (xs ++ ys) ≡ cond (eqb (first_met xs) 0) (first_met ys) (first_met xs)
+first_of_both [] ys some = refl
+first_of_both ((number, true) ∷ rest) ys some = rw (not-true (eqb number 0) (and_parts (not (eqb number 0)) (is_none 0 rest) some).0)
+first_of_both ((number, false) ∷ rest) ys some = first_of_both rest ys (and_parts (not (eqb number 0)) (is_none 0 rest) some).1
+
+pub none_of_both : (number : ℕ) (xs ys : List (ℕ × Bool)) → is_none number xs ≡ true → is_none number ys ≡ true → is_none number (xs ++ ys) ≡ true
+none_of_both number [] ys hx hy = hy
+none_of_both number (s ∷ rest) ys hx hy =
+    let h = and_parts (not (eqb s.0 number)) (is_none number rest) hx in
+    h.0 and none_of_both number rest ys h.1 hy
