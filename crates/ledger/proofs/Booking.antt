@@ -22,9 +22,8 @@ use Rattle.calls.specs.declared.Trade.{Trade}
 use Rattle.refusals.specs.declared.Refusal.{Refusal}
 use Rattle.refusals.specs.Refusals.{first_met, number_of}
 use Rattle.refusals.proofs.Numbers.{not_zero}
-use Rattle.refusals.proofs.Passed.{unmet, first_of_both}
+use Rattle.refusals.proofs.Passed.{first_of_both}
 use Rattle.day.specs.Day.{day_length, is_final, with_trade}
-use Rattle.day_effects.proofs.Keeping.{TradeFields, trade_fields}
 use Rattle.outcomes.specs.Effects.{figures_after}
 use Rattle.figures.specs.declared.Figures.{Figures}
 use Rattle.columns.specs.declared.Columns.{Columns}
@@ -38,6 +37,7 @@ use Rattle.ledger.specs.Effects.{effect}
 use Rattle.ledger.specs.Inner.{Room, SetBooked, WithinLimits}
 use Rattle.ledger.specs.Sets.{set_effect, trade_sentences}
 use Rattle.ledger.proofs.Held.{held, contracts_most}
+use Rattle.ledger.proofs.KeepingTrade.{own_fields}
 use Rattle.ledger.proofs.Lent.{position_any, cost_any, volume_any}
 
 -- ---- room
@@ -63,10 +63,6 @@ tradable_in k b t r =
       contracts = omega (arith, r.contracts);
       gross = omega (arith, r.gross);
     }
-
--- the fields of a trade that passes by itself
-pub own_fields : (n : ℕ) (t : Trade) → Passes n t → TradeFields t
-own_fields n t p = trade_fields t (unmet (own_sentences n t) refl p 0)
 
 room_left : (n k : ℕ) (b : Book) (t : Trade) → Passes n t → Room (suc k) b → Room k (effect n b (call.Trade t))
 unfolding effect figures_after

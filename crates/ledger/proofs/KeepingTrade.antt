@@ -1,49 +1,53 @@
--- A trade keeps the columns within their limits, with oneself too.
+-- A trade that passes by itself keeps what a book holds while a set is booked, with oneself too.
+--     own_fields, own_accounts     what is known of such a trade
+--     interim_traded, interim_set     the book after it, and after many
 -- Assumes nothing.
-use mathlib.Core.Path.{◌≡◌, ap}
-use mathlib.Core.Bool.{◌&&◌}
-use mathlib.Core.List.{[], ◌∷◌}
+use mathlib.Core.Path.{◌≡◌, refl}
+use mathlib.Core.List.{List, [], ◌∷◌}
 use Prim.Native.Nat.{ℕ, ◌+◌, ◌*◌, ◌<◌, ◌≤◌}
 use native.Mathlib.Omega.{arith}
-use lib.Dec.{leb}
 use lib.IntN.{pos, neg_ℤ, nat_abs, ◌+ℤ◌}
 use lib.ListN.{length-set}
-use borrow.Author.Tests.{not-false}
-use Rattle.integers.specs.Size.{within}
+use Rattle.integers.specs.Lists.{Every}
 use Rattle.integers.proofs.Sizes.{abs_neg}
 use Rattle.std.proofs.lemmas.Bool.{cond_both}
-use Rattle.integers.proofs.Tests.{tests, each}
 use Rattle.prices.specs.Price.{largest_price}
 use Rattle.calls.specs.declared.Call.TheVariants as call
 use Rattle.calls.specs.declared.Trade.{Trade}
+use Rattle.refusals.proofs.Passed.{unmet}
 use Rattle.day.specs.Day.{day_length, is_final, with_trade}
 use Rattle.outcomes.specs.Effects.{figures_after}
+use Rattle.outcomes.proofs.Keeping.{trade_kept}
 use Rattle.day.proofs.Held.{HeldFinal}
 use Rattle.day_effects.proofs.Keeping.{TradeFields, trade_fields}
 use Rattle.columns.specs.Columns.{entry, count_at, raise, raise_count, sum_below}
-use Rattle.columns.specs.Limits.{most_position, most_volume}
 use Rattle.columns.proofs.Accounts.{sum_raised}
 use Rattle.counterparties.specs.Counterparties.{exchanged, counted}
 use Rattle.counterparties.proofs.Present.{in_range}
-use Rattle.counterparties.proofs.Raised.{cost_raised, untouched, of_each}
-use Rattle.ledger.specs.Effects.{traded_book}
+use Rattle.counterparties.proofs.Raised.{cost_raised}
+use Rattle.trading.specs.Trading.{own_sentences}
+use Rattle.trading.specs.Inner.{Passes}
+use Rattle.ledger.specs.Effects.{effect}
+use Rattle.ledger.specs.Sets.{set_effect}
 use Rattle.ledger.specs.Keeping.{Shaped}
-use Rattle.figures.specs.declared.Figures.{Figures}
 use Rattle.ledger.specs.declared.Book.{Book}
-use Rattle.ledger.proofs.Held.{Account, Held}
-use Rattle.ledger.proofs.Passed.{Passed}
+use Rattle.ledger.proofs.Shape.{shape_kept}
+use Rattle.ledger.proofs.Interim.{Interim}
 
-module _ (n : ℕ) (b : Book) (t : Trade) (shape : Shaped n b) (h : Held n b) (p : Passed n b (call.Trade t)) where
-  fields : TradeFields t
-  fields = trade_fields t p.sentences.field
+module _ (n : ℕ) (t : Trade) (p : Passes n t) where
+  pub own_fields : TradeFields t
+  own_fields = trade_fields t (unmet (own_sentences n t) refl p 0)
 
-  accounts : (t.buyer < n) × (t.seller < n)
-  accounts = in_range n t p.sentences.accounts
+  pub own_accounts : (t.buyer < n) × (t.seller < n)
+  own_accounts = in_range n t (unmet (own_sentences n t) refl p 1)
 
+module _ (n : ℕ) (b : Book) (t : Trade) (p : Passes n t) (shape : Shaped n b) (h : Interim n b) where
   costs : (j : ℕ) → j < n → nat_abs (entry (exchanged b.columns.cost t (t.quantity * t.price)) j) ≤ count_at (counted b.columns.volume t) j * largest_price
   costs j l =
       let q = t.quantity in
       let x = q * t.price in
+      let fields = own_fields n t p in
+      let accounts = own_accounts n t p in
       let cost = raise b.columns.cost t.buyer (pos x) in
       let volume = raise_count b.columns.volume t.buyer q in
       cost_raised cost volume t.seller j q (neg_ℤ (pos x))
@@ -52,31 +56,10 @@ module _ (n : ℕ) (b : Book) (t : Trade) (shape : Shaped n b) (h : Held n b) (p
       (omega (arith, fields.high, abs_neg (pos x)))
       (cost_raised b.columns.cost b.columns.volume t.buyer j q (pos x) (omega (arith, accounts.0, shape.cost)) (omega (arith, accounts.0, shape.volume)) fields.high (h.account j l).cost)
 
-  -- closed days stay
-  pub traded_account : (f : Figures) → f.closed ≡ b.figures.closed → (j : ℕ) → j < n → Account (traded_book b f t) j
-  traded_account f e j l =
-      let a = h.account j l in
-      let position = exchanged b.columns.position t t.quantity in
-      let volume = counted b.columns.volume t in
-      let bp = within (entry position t.buyer) most_position in
-      let sp = within (entry position t.seller) most_position in
-      let bv = leb (count_at volume t.buyer) most_volume in
-      let sv = leb (count_at volume t.seller) most_volume in
-      let positions = each bp (sp ∷ []) (not-false (bp && sp) p.sentences.position) in
-      let volumes = each bv (sv ∷ []) (not-false (bv && sv) p.sentences.volume) in
-      record {
-        opening = a.opening;
-        position = of_each (λ i. nat_abs (entry position i) ≤ most_position) j t.buyer t.seller (omega (tests, positions 0)) (omega (tests, positions 1))
-            (λ x y. let e : entry position j ≡ entry b.columns.position j = untouched b.columns.position t.buyer t.seller j _ _ (pos 0) x y in omega (arith, a.position, ap nat_abs e));
-        volume = of_each (λ i. count_at volume i ≤ most_volume) j t.buyer t.seller (omega (tests, volumes 0)) (omega (tests, volumes 1))
-            (λ x y. let e : count_at volume j ≡ count_at b.columns.volume j = untouched b.columns.volume t.buyer t.seller j _ _ 0 x y in omega (arith, a.volume));
-        cost = costs j l;
-        cash = rw e a.cash;
-      }
-
   volumes : sum_below n (count_at (counted b.columns.volume t)) ≡ sum_below n (count_at b.columns.volume) + t.quantity + t.quantity
   volumes =
       let q = t.quantity in
+      let accounts = own_accounts n t p in
       let volume = raise_count b.columns.volume t.buyer q in
       omega (
         arith,
@@ -84,11 +67,28 @@ module _ (n : ℕ) (b : Book) (t : Trade) (shape : Shaped n b) (h : Held n b) (p
         sum_raised n b.columns.volume t.buyer q accounts.0 (omega (arith, shape.volume)),
       )
 
-  pub traded_final : HeldFinal (figures_after b.figures (call.Trade t)).day.trades.settling (sum_below n (count_at (counted b.columns.volume t)))
+  final : HeldFinal (figures_after b.figures (call.Trade t)).day.trades.settling (sum_below n (count_at (counted b.columns.volume t)))
   unfolding figures_after
-  traded_final =
+  final =
       let d = b.figures.day in
       let m = d.trades.settling in
+      let fields = own_fields n t p in
       cond_both (is_final (day_length d) d.minutes.ended t) (with_trade m t) m (λ x. HeldFinal x (sum_below n (count_at (counted b.columns.volume t))))
       (λ e. record { contracts = omega (arith, volumes, h.final.contracts); gross = record { low = omega (arith, fields.low, h.final.gross.low); high = omega (arith, fields.high, h.final.gross.high) } })
       (λ e. record { contracts = omega (arith, volumes, h.final.contracts); gross = h.final.gross })
+
+  pub interim_traded : Interim n (effect n b (call.Trade t))
+  unfolding effect figures_after
+  interim_traded =
+      record {
+        figures = trade_kept b.figures h.figures t (unmet (own_sentences n t) refl p 0);
+        account = λ j l. let a = h.account j l in record { opening = a.opening; cost = costs j l; cash = a.cash };
+        final = final;
+      }
+
+-- ---- the trades of a set
+
+pub interim_set : (n : ℕ) (b : Book) (ts : List Trade) → Every (Passes n) ts → Shaped n b → Interim n b → Interim n (set_effect n b ts)
+unfolding set_effect
+interim_set n b [] p s i = i
+interim_set n b (t ∷ ts) p s i = interim_set n (effect n b (call.Trade t)) ts p.1 (shape_kept n b (call.Trade t) s) (interim_traded n b t p.0 s i)

@@ -1,8 +1,11 @@
 pub mod Held
+pub mod Interim
 pub mod Passed
+pub mod Shape
+pub mod SetRefusal
 pub mod KeepingTrade
 pub mod KeepingClose
 pub mod Keeping
 pub mod Lent
 pub mod Booking
-pub mod SetRefusal
+pub mod SetOrSingly

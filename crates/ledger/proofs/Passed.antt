@@ -1,5 +1,6 @@
 -- What is known of a call that no refusal meets.
 --     passed            the book is within its limits, and none of the sentences is met
+--     passes_itself     a trade's own sentences
 --     within_passes     on a book within its limits the number is not 2
 -- Assumes nothing.
 use mathlib.Core.Path.{◌≡◌, refl, ap}
@@ -8,11 +9,14 @@ use mathlib.Core.List.{◌∷◌}
 use Prim.Native.Nat.{ℕ}
 use borrow.Author.Tests.{not-false}
 use Rattle.calls.specs.Calls.{on_trade}
+use Rattle.calls.specs.declared.Call.TheVariants as call
+use Rattle.calls.specs.declared.Trade.{Trade}
 use Rattle.calls.specs.declared.Call.{Call}
 use Rattle.refusals.specs.Refusals.{no_accounts, first_met}
 use Rattle.refusals.proofs.Passed.{unmet, never_met}
 use Rattle.outcomes.proofs.Passed.{PassedFigures, passed_figures}
 use Rattle.counterparties.specs.Counterparties.{accounts_of}
+use Rattle.trading.specs.Inner.{Passes}
 use Rattle.ledger.specs.Refusals.{sentences_of, refusal, within_limits}
 use Rattle.ledger.specs.declared.Book.{Book}
 
@@ -29,6 +33,10 @@ unfolding refusal
 passed n b c h =
     let limits = unmet ((2, not (within_limits n b)) ∷ sentences_of n b c) refl h 0 in
     record { limits = not-false (within_limits n b) limits; sentences = passed_figures b.figures c (on_trade (accounts_of n b.columns.position b.columns.volume) no_accounts c) (rw limits at h) }
+
+-- such a trade passes by itself too
+pub passes_itself : (n : ℕ) (b : Book) (t : Trade) → Passed n b (call.Trade t) → Passes n t
+passes_itself n b t p = rw (p.sentences.field, p.sentences.accounts)
 
 pub within_passes : (n : ℕ) (b : Book) (c : Call) → within_limits n b ≡ true → refusal n b c ≡ 2 → ⊥
 unfolding refusal

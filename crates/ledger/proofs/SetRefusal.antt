@@ -1,24 +1,30 @@
 -- The number of a set's refusal, by the three parts of its sentences, and the answer by that number.
 --     by_parts      what the set as a whole gives, else its trades, else the accounts at its end
 --     refused, accepted     the answer
---     opened        what is known of a set that is not refused as a whole
+--     opened        what is known of a set that is not refused as a whole;  set_passed     and of one that is accepted
+--     within_passes_set     on a book within its limits the number is not 2
 -- Assumes nothing.
 use mathlib.Core.Path.{◌≡◌, refl, sym, ◌∙◌, ap}
-use mathlib.Core.Bool.{true, false, not, cond, true≢false}
+use mathlib.Core.Bool.{Bool, true, false, not, cond, true≢false}
 use mathlib.Core.List.{List, [], ◌∷◌, ◌++◌}
 use Prim.Native.Nat.{ℕ, ◌≤◌}
 use lib.Dec.{eqb, leb}
 use lib.ListN.{length}
-use borrow.Author.Tests.{eq-eqb, not-false}
+use borrow.Author.Tests.{eqb-true, eq-eqb, not-false}
 use Rattle.std.specs.Prelude.{Ok, Err}
+use Rattle.integers.specs.Lists.{Every}
 use Rattle.integers.proofs.Tests.{tests, each}
 use Rattle.calls.specs.Trade.{most_trades, is_set_length}
 use Rattle.calls.specs.declared.Trade.{Trade}
 use Rattle.refusals.specs.declared.Refusal.{Refusal}
 use Rattle.refusals.specs.Refusals.{first_met, is_full, number}
 use Rattle.refusals.proofs.Numbers.{not_zero}
-use Rattle.refusals.proofs.Passed.{is_none, unmet, first_of_both, none_of_both}
+use Rattle.refusals.specs.Sets.{set_sentences}
+use Rattle.refusals.proofs.Passed.{is_none, unmet, never_met, first_of_both, none_of_both}
+use Rattle.columns.specs.Columns.{all_below}
+use Rattle.columns.specs.Limits.{volume_holds, position_holds}
 use Rattle.trading.specs.Trading.{own_sentences}
+use Rattle.trading.specs.Inner.{Passes}
 use Rattle.ledger.specs.declared.Book.{Book}
 use Rattle.ledger.specs.Refusals.{within_limits}
 use Rattle.ledger.specs.Inner.{set_answer}
@@ -28,6 +34,8 @@ pub no_trade_gives : (number : ℕ) (n : ℕ) (ts : List Trade) → ((t : Trade)
 unfolding trade_sentences
 no_trade_gives number n [] h = refl
 no_trade_gives number n (t ∷ ts) h = none_of_both number (own_sentences n t) (trade_sentences n ts) (h t) (no_trade_gives number n ts h)
+
+-- ---- by its parts
 
 -- the first number, or else the second
 abbrev pub or_else : ℕ → ℕ → ℕ
@@ -77,3 +85,60 @@ module _ (n : ℕ) (b : Book) (ts : List Trade) where
         some = λ e. true≢false (sym (trades 0) ∙ rw (eq-eqb (length ts) 0 e));
         few = omega (tests, trades 1);
       }
+
+-- ---- a set that no refusal meets
+
+or_none : (x y : ℕ) → or_else x y ≡ 0 → (x ≡ 0) × (y ≡ 0)
+or_none x y h = go (eqb x 0) refl h
+  where
+    go : (t : Bool) → eqb x 0 ≡ t → cond t y x ≡ 0 → (x ≡ 0) × (y ≡ 0)
+    go true e h = (eqb-true x 0 e, h)
+    go false e h = absurd (true≢false (sym (eq-eqb x 0 h) ∙ e))
+
+all_pass : (n : ℕ) (ts : List Trade) → first_met (trade_sentences n ts) ≡ 0 → Every (Passes n) ts
+unfolding trade_sentences
+all_pass n [] h = tt
+all_pass n (t ∷ ts) h =
+    let two = or_none _ _ (sym (first_of_both (own_sentences n t) (trade_sentences n ts) refl) ∙ h) in
+    (two.0, all_pass n ts two.1)
+
+pub record SetPassed (n : ℕ) (b : Book) (ts : List Trade) : Type 0 where
+  pub opened : Opened n b ts
+  pub each : Every (Passes n) ts
+  pub volumes : all_below n (volume_holds (set_effect n b ts).columns.volume) ≡ true
+  pub positions : all_below n (position_holds (set_effect n b ts).columns.position) ≡ true
+
+pub set_passed : (n : ℕ) (b : Book) (ts : List Trade) → set_refusal n b ts ≡ 0 → SetPassed n b ts
+set_passed n b ts h =
+    let parts = or_none _ _ (sym (by_parts n b ts) ∙ h) in
+    let rest = or_none _ _ parts.1 in
+    let c = (set_effect n b ts).columns in
+    let u = unmet (final_sentences n c) refl rest.1 in
+    record {
+      opened = opened n b ts parts.0;
+      each = all_pass n ts rest.0;
+      volumes = not-false (all_below n (volume_holds c.volume)) (u 0);
+      positions = not-false (all_below n (position_holds c.position)) (u 1);
+    }
+
+-- a set on a book within its limits
+pub within_passes_set : (n : ℕ) (b : Book) (ts : List Trade) → within_limits n b ≡ true → set_refusal n b ts ≡ 2 → ⊥
+unfolding set_refusal
+within_passes_set n b ts w h =
+    let c = (set_effect n b ts).columns in
+    let rest = trade_sentences n ts ++ final_sentences n c in
+    never_met 2 (set_sentences b.figures.closed b.figures.halted (length ts) ++ rest)
+    (none_of_both 2 (set_sentences b.figures.closed b.figures.halted (length ts)) rest refl (none_of_both 2 (trade_sentences n ts) (final_sentences n c) (no_trade_gives 2 n ts (λ t. refl)) refl))
+    (rw w at h)
+
+-- ---- and back
+
+none_of_trades : (n : ℕ) (ts : List Trade) → Every (Passes n) ts → first_met (trade_sentences n ts) ≡ 0
+unfolding trade_sentences
+none_of_trades n [] p = refl
+none_of_trades n (t ∷ ts) p = first_of_both (own_sentences n t) (trade_sentences n ts) refl ∙ rw (p.0, none_of_trades n ts p.1)
+
+pub by_passed : (n : ℕ) (b : Book) (ts : List Trade) → within_limits n b ≡ true → is_full b.figures.closed ≡ false → b.figures.halted ≡ false → is_set_length (length ts) ≡ true
+    → Every (Passes n) ts → all_below n (volume_holds (set_effect n b ts).columns.volume) ≡ true → all_below n (position_holds (set_effect n b ts).columns.position) ≡ true
+    → set_refusal n b ts ≡ 0
+by_passed n b ts limits full halted few own volumes positions = by_parts n b ts ∙ rw (volumes, positions, limits, full, halted, few, none_of_trades n ts own)

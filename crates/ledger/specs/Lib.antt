@@ -2,6 +2,8 @@ pub mod Effects
 pub mod Refusals
 pub mod Step
 pub mod Sets
+pub mod Operations
 pub mod Checked
 pub mod Keeping
+pub mod SetOrSingly
 pub mod Inner

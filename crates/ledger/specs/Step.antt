@@ -1,8 +1,7 @@
--- The opening, a call, a list of calls and the report, on a book of n accounts.
-use mathlib.Core.{Bool.Bool, Bool.cond, Bool.not, Bool.◌||◌, List.List, List.[], List.◌∷◌}
+-- The opening, a call and the report, on a book of n accounts.
+use mathlib.Core.{Bool.cond, Bool.not, Bool.◌||◌, List.List, List.[], List.◌∷◌}
 use Rattle.std.specs.Prelude.{ℕ, Option, None, Result}
 use lib.{Dec.eqb, IntN.ℤ}
-use Rattle.integers.specs.Lists.{keep_if}
 use Rattle.calls.specs.declared.Call.{Call}
 use Rattle.refusals.specs.{declared.Refusal.Refusal, Refusals.first_met, Refusals.number_of}
 use Rattle.figures.specs.{declared.Figures.Figures, declared.Fixing.Fixing, Figures.fixing_in, Figures.fresh_figures, Figures.opened}
@@ -34,11 +33,7 @@ fresh n s = empty_book n (fresh_figures s)
 abbrev pub opening : ℕ → ℕ → Answered
 opening n s = record { code = (opened s).code; fixing = (opened s).fixing; book = empty_book n (opened s).figures }
 
--- ---- calls
-
--- 01: "A call is accepted when it returns no refusal number"
-abbrev pub is_accepted : ℕ → Book → Call → Bool
-is_accepted n b c = eqb (refusal n b c) 0
+-- ---- a call
 
 -- the answer with this number: 01, "A refused call returns its number and the same book"
 abbrev pub answer_by : ℕ → ℕ → Book → Call → Answered
@@ -51,16 +46,6 @@ answer_by number n b c = record {
 -- the answer to a call
 unfoldable pub step : ℕ → Book → Call → Answered
 step n b c = answer_by (refusal n b c) n b c
-
--- the book after a list of calls
-unfoldable pub run : ℕ → Book → List Call → Book
-run n b [] = b
-run n b (c ∷ cs) = run n (step n b c).book cs
-
--- the accepted calls of a list, in its order
-unfoldable pub accepted_calls : ℕ → Book → List Call → List Call
-accepted_calls n b [] = []
-accepted_calls n b (c ∷ cs) = keep_if (is_accepted n b c) c (accepted_calls n (step n b c).book cs)
 
 -- ---- the report
 

@@ -1,5 +1,6 @@
 -- An accepted call leaves figures within their limits: the statement of specs/Outcome.antt.
 --     fix_price-held, fix_amount-held     the price and the amount of a fix
+--     trade_kept              a trade, from its fields
 --     held_after              every call, from what it passed
 --     figures_kept            the same, from the tests
 -- Assumes nothing.
@@ -24,6 +25,7 @@ use Rattle.calls.specs.declared.Trade.{Trade}
 use Rattle.calls.specs.declared.TimedQuote.{TimedQuote}
 use Rattle.calls.specs.declared.Call.{Call}
 use Rattle.funding.specs.Market.{as_minute, uncrossed, market_holds, minute_market_holds}
+use Rattle.calls.specs.Trade.{trade_outside}
 use Rattle.calls.specs.Length.{is_length}
 use Rattle.day.specs.Day.{no_markets, day_length, is_fixed}
 use Rattle.figures.specs.Figures.{terms_on, tie_on, tenth}
@@ -52,13 +54,17 @@ module _ (f : Figures) (h : HeldFigures f) (volume : ℕ) (final : HeldFinal f.d
 
 -- ---- the calls
 
+-- with another day
+held-with_day : {f x : Figures} → HeldFigures f → x.size ≡ f.size → x.closed ≡ f.closed → x.previous ≡ f.previous → HeldDay x.day → HeldFigures x
+held-with_day h size closed previous day = record { size = rw size h.size; closed = rw closed h.closed; price = rw previous h.price; index = rw previous h.index; day = day }
+
+pub trade_kept : (f : Figures) → HeldFigures f → (t : Trade) → trade_outside t ≡ false → HeldFigures (figures_after f (call.Trade t))
+unfolding figures_after
+trade_kept f h t field = held-with_day h refl refl refl (held-traded f.day h.day t field)
+
 module _ (f : Figures) (a : Accounts) (h : HeldFigures f) where
   abbrev d : Day
   d = f.day
-
-  -- with another day
-  held-with_day : {x : Figures} → x.size ≡ f.size → x.closed ≡ f.closed → x.previous ≡ f.previous → HeldDay x.day → HeldFigures x
-  held-with_day {x} size closed previous day = record { size = rw size h.size; closed = rw closed h.closed; price = rw previous h.price; index = rw previous h.index; day = day }
 
   -- the markets after a quote
   quoted_holds : (m : Market) → sides_outside m ≡ false → not (uncrossed m) ≡ false → markets_hold (quoted d.markets m) ≡ true
@@ -69,30 +75,26 @@ module _ (f : Figures) (a : Accounts) (h : HeldFigures f) where
 
   quote_kept : (m : Market) → PassedFigures f (call.Quote m) a → HeldFigures (figures_after f (call.Quote m))
   unfolding figures_after
-  quote_kept m p = held-with_day refl refl refl (held-with_markets d h.day (quoted d.markets m) (quoted_holds m p.field p.market))
+  quote_kept m p = held-with_day h refl refl refl (held-with_markets d h.day (quoted d.markets m) (quoted_holds m p.field p.market))
 
   timed_quote_kept : (q : TimedQuote) → PassedFigures f (call.TimedQuote q) a → HeldFigures (figures_after f (call.TimedQuote q))
   unfolding figures_after
   timed_quote_kept q p =
       let t = passed_time f q a p in
-      held-with_day refl refl refl (held-timed d h.day (quoted d.markets q.market) (quoted_holds q.market t.sides p.market) q.time t.forward t.most)
-
-  trade_kept : (t : Trade) → PassedFigures f (call.Trade t) a → HeldFigures (figures_after f (call.Trade t))
-  unfolding figures_after
-  trade_kept t p = held-with_day refl refl refl (held-traded d h.day t p.field)
+      held-with_day h refl refl refl (held-timed d h.day (quoted d.markets q.market) (quoted_holds q.market t.sides p.market) q.time t.forward t.most)
 
   minute_end_kept : (u : ℕ) → PassedFigures f (call.MinuteEnd u) a → HeldFigures (figures_after f (call.MinuteEnd u))
   unfolding figures_after
   minute_end_kept u p =
       let t = none (leb (day_length d) d.minutes.ended) (is_fixed d ∷ []) p.day in
-      held-with_day refl refl refl (held-minute_ended d h.day (terms_on f) f.halted u (omega (tests, t 0)) (not-false (none_or_price u) p.field) (t 1))
+      held-with_day h refl refl refl (held-minute_ended d h.day (terms_on f) f.halted u (omega (tests, t 0)) (not-false (none_or_price u) p.field) (t 1))
 
   fix_kept : (volume set : ℕ) → HeldFinal d.trades.settling volume → PassedFigures f (call.Fix set) a → HeldFigures (figures_after f (call.Fix set))
   unfolding figures_after
   fix_kept volume set final p =
       let t = none (ltb d.minutes.ended (day_length d)) (is_fixed d ∷ []) p.day in
       let hs = not-false (none_or_price set) p.field in
-      held-with_day refl refl refl (held-with_fixed d h.day (fixed_at f set) (omega (tests, t 0)) (fix_price-held f h volume final set hs) (fix_amount-held f h volume final set hs))
+      held-with_day h refl refl refl (held-with_fixed d h.day (fixed_at f set) (omega (tests, t 0)) (fix_price-held f h volume final set hs) (fix_amount-held f h volume final set hs))
 
   close_kept : PassedFigures f call.Close a → HeldFigures (figures_after f call.Close)
   unfolding figures_after
@@ -101,14 +103,14 @@ module _ (f : Figures) (a : Accounts) (h : HeldFigures f) where
 
   length_kept : (l : ℕ) → PassedFigures f (call.DayLength l) a → HeldFigures (figures_after f (call.DayLength l))
   unfolding figures_after
-  length_kept l p = held-with_day refl refl refl (held-with_length d h.day l p.day (not-false (is_length l) p.field))
+  length_kept l p = held-with_day h refl refl refl (held-with_length d h.day l p.day (not-false (is_length l) p.field))
 
   pub held_after : (c : Call) (volume : ℕ) → HeldFinal d.trades.settling volume → PassedFigures f c a → HeldFigures (figures_after f c)
   unfolding figures_after
   held_after (call.Quote m) volume final p = quote_kept m p
-  held_after (call.Trade t) volume final p = trade_kept t p
-  held_after call.Halt volume final p = held-with_day refl refl refl (held-with_markets d h.day no_markets refl)
-  held_after call.Resume volume final p = held-with_day refl refl refl (held-with_markets d h.day d.markets h.day.markets)
+  held_after (call.Trade t) volume final p = trade_kept f h t p.field
+  held_after call.Halt volume final p = held-with_day h refl refl refl (held-with_markets d h.day no_markets refl)
+  held_after call.Resume volume final p = held-with_day h refl refl refl (held-with_markets d h.day d.markets h.day.markets)
   held_after (call.MinuteEnd u) volume final p = minute_end_kept u p
   held_after (call.Fix set) volume final p = fix_kept volume set final p
   held_after call.Close volume final p = close_kept p

@@ -1,0 +1,87 @@
+-- The same trades by set or singly: the statements of specs/SetOrSingly.antt.
+--     same_book, singly_then_set, set_of_one
+-- Assumes nothing.
+use mathlib.Core.Path.{◌≡◌, refl, sym, ◌∙◌, ap}
+use mathlib.Core.Bool.{Bool, true, false, not, cond, true≢false}
+use mathlib.Core.List.{List, [], ◌∷◌}
+use Prim.Native.Nat.{ℕ}
+use lib.Dec.{eqb}
+use Rattle.std.specs.Prelude.{Option, None}
+use Rattle.std.proofs.Math.Bool.{or-false}
+use Rattle.figures.specs.declared.Fixing.{Fixing}
+use Rattle.outcomes.specs.Effects.{fixing_of}
+use Rattle.counterparties.proofs.Present.{in_range}
+use Rattle.ledger.specs.Sets.{trade_sentences}
+use Rattle.integers.specs.Lists.{Every}
+use Rattle.calls.specs.declared.Call.TheVariants as call
+use Rattle.calls.specs.declared.Trade.{Trade}
+use Rattle.counterparties.specs.Counterparties.{are_accounts}
+use Rattle.trading.specs.Inner.{Passes}
+use Rattle.ledger.specs.declared.Book.{Book}
+use Rattle.ledger.specs.Effects.{effect}
+use Rattle.ledger.specs.Refusals.{refusal, within_limits}
+use Rattle.ledger.specs.Step.{step}
+use Rattle.ledger.specs.Sets.{set_effect, set_refusal, trade_set}
+use Rattle.ledger.specs.Operations.{run, singles, trade_calls}
+use Rattle.ledger.specs.Keeping.{Shaped}
+use Rattle.ledger.specs.SetOrSingly.{AllAccepted, SameBook, SinglyThenSet, SetOfOne}
+use Rattle.ledger.proofs.Passed.{passed, passes_itself}
+use Rattle.ledger.proofs.SetRefusal.{by_passed}
+use Rattle.ledger.proofs.Shape.{shape_kept}
+use Rattle.ledger.proofs.Held.{Held, held}
+use Rattle.ledger.proofs.Interim.{volumes_of, positions_of, volumes_after, positions_after}
+use Rattle.ledger.proofs.Keeping.{limits_kept}
+
+-- the book after accepted trades, one by one
+accepted_book : (n : ℕ) (b : Book) (ts : List Trade) → AllAccepted n b (trade_calls ts) → run n b (singles (trade_calls ts)) ≡ set_effect n b ts
+unfolding run set_effect step
+accepted_book n b [] a = refl
+accepted_book n b (t ∷ ts) a =
+    let e : (step n b (call.Trade t)).book ≡ effect n b (call.Trade t) = rw a.0 in
+    ap (λ (x : Book). run n x (singles (trade_calls ts))) e ∙ accepted_book n (effect n b (call.Trade t)) ts (rw e at a.1)
+
+pub same_book : SameBook
+unfolding trade_set
+same_book n b ts r a = accepted_book n b ts a ∙ rw r
+
+-- ---- trades that are each accepted
+
+each_passes : (n : ℕ) (b : Book) (ts : List Trade) → AllAccepted n b (trade_calls ts) → Every (Passes n) ts
+each_passes n b [] a = tt
+each_passes n b (t ∷ ts) a = (passes_itself n b t (passed n b (call.Trade t) a.0), each_passes n (step n b (call.Trade t)).book ts a.1)
+
+still_held : (n : ℕ) (b : Book) (ts : List Trade) → Shaped n b → Held n b → AllAccepted n b (trade_calls ts) → Held n (set_effect n b ts)
+unfolding set_effect step
+still_held n b [] s h a = h
+still_held n b (t ∷ ts) s h a =
+    let e : (step n b (call.Trade t)).book ≡ effect n b (call.Trade t) = rw a.0 in
+    still_held n (effect n b (call.Trade t)) ts (shape_kept n b (call.Trade t) s) (held n (effect n b (call.Trade t)) (limits_kept n b (call.Trade t) s a.0)) (rw e at a.1)
+
+pub singly_then_set : SinglyThenSet
+singly_then_set n b [] s few a = absurd (true≢false (sym few))
+singly_then_set n b (t ∷ ts) s few a =
+    let p = passed n b (call.Trade t) a.0 in
+    let h = still_held n b (t ∷ ts) s (held n b p.limits) a in
+    by_passed n b (t ∷ ts) p.limits p.sentences.full p.sentences.halt few (each_passes n b (t ∷ ts) a) (volumes_of h) (positions_of h)
+
+-- ---- one trade
+
+module _ (n : ℕ) (b : Book) (t : Trade) where
+  same_number : (w m : Bool) → within_limits n b ≡ w → are_accounts n t ≡ m → set_refusal n b (t ∷ []) ≡ refusal n b (call.Trade t)
+  unfolding set_refusal refusal trade_sentences set_effect effect
+  same_number false m limits range = rw limits
+  same_number true false limits range = rw (limits, range, or-false)
+  same_number true true limits range =
+      let h = held n b limits in
+      let accounts = in_range n t (ap not range) in
+      rw (limits, range, or-false, volumes_after n b t h accounts, positions_after n b t h accounts)
+
+  no_fixing : (x : Bool) → ◌≡◌ {A = Option Fixing} None (cond x None None)
+  no_fixing true = refl
+  no_fixing false = refl
+
+pub set_of_one : SetOfOne
+unfolding trade_set step set_effect fixing_of
+set_of_one n b t =
+    let e = same_number n b t (within_limits n b) (are_accounts n t) refl refl in
+    rw (e, ← no_fixing n b t (eqb (refusal n b (call.Trade t)) 0))
