@@ -5,17 +5,17 @@
 -- Assumes nothing.
 use mathlib.Core.Path.{◌≡◌, refl, sym, ◌∙◌, ap, ap₂}
 use mathlib.Core.Bool.{Bool, true, false, cond}
-use mathlib.Core.List.{List, [], ◌∷◌}
+use mathlib.Core.List.{List, [], ◌∷◌, ◌++◌}
 use Prim.Native.Nat.{ℕ, ◌+◌, ◌≤◌}
 use native.Mathlib.Omega.{arith}
 use mir.Val.{bool_byte}
 use lib.ListN.{length}
 use Rattle.std.specs.Prelude.{Option, Some, None, Result, Ok, Err, is_ok, nat_eq}
-use Rattle.integers.specs.Lists.{keep_if}
 use Rattle.calls.specs.declared.Call.{Call}
 use Rattle.columns.specs.Columns.{accounts}
 use Rattle.ledger.specs.declared.Book.{Book}
-use Rattle.ledger.specs.Step.{Answered, answer_of, step, run, accepted_calls, is_accepted}
+use Rattle.ledger.specs.Step.{Answered, answer_of, step}
+use Rattle.ledger.specs.Operations.{Operation, singles, is_accepted, run, accepted_calls}
 use Rattle.figures.specs.declared.Fixing.{Fixing}
 use Rattle.refusals.specs.declared.Refusal.{Refusal}
 use Rattle.refusals.proofs.Numbers.{is_zero}
@@ -25,24 +25,21 @@ use Rattle.dayfile.specs.Record.{read_at}
 use Rattle.dayfile.specs.Calls.{called, calls_from, calls_of}
 use Rattle.dayfile.proofs.Calls.{calls_at, calls_at_end}
 use Rattle.dayfile.proofs.Forward.{further_to}
-use Rattle.records.specs.Run.{RunEnd, run_over, Running}
-
-abbrev accepted : Book → List Call → ℕ
-accepted b cs = length (accepted_calls accounts b cs)
+use Rattle.records.specs.Run.{RunEnd, after_calls, accepted_of, run_over, Running}
 
 -- a record's call and those after it: what it leads to, and then what these lead to
-book_then : (b : Book) (call : Result (Option Call) RecordError) (rest : List Call) → run accounts b (called call rest) ≡ run accounts (run accounts b (called call [])) rest
+book_then : (b : Book) (call : Result (Option Call) RecordError) (rest : List Call) → after_calls b (called call rest) ≡ after_calls (after_calls b (called call [])) rest
 unfolding run
 book_then b (Ok None) rest = refl
 book_then b (Ok (Some c)) rest = refl
 book_then b (Err e) rest = refl
 
-count_then : (b : Book) (call : Result (Option Call) RecordError) (rest : List Call) → accepted b (called call rest) ≡ accepted b (called call []) + accepted (run accounts b (called call [])) rest
+count_then : (b : Book) (call : Result (Option Call) RecordError) (rest : List Call) → accepted_of b (called call rest) ≡ accepted_of b (called call []) + accepted_of (after_calls b (called call [])) rest
 unfolding run accepted_calls
 count_then b (Ok None) rest = omega arith
-count_then b (Ok (Some c)) rest = one_more (is_accepted accounts b c) (accepted_calls accounts (step accounts b c).book rest)
+count_then b (Ok (Some c)) rest = one_more (is_accepted accounts b (Operation.Single c)) (accepted_calls accounts (step accounts b c).book (singles rest))
   where
-    one_more : (t : Bool) (cs : List Call) → length (keep_if t c cs) ≡ length (keep_if t c []) + length cs
+    one_more : (t : Bool) (cs : List Call) → length (cond t (c ∷ []) [] ++ cs) ≡ length (cond t (c ∷ []) [] ++ []) + length cs
     one_more true cs = omega arith
     one_more false cs = omega arith
 count_then b (Err e) rest = omega arith
@@ -51,10 +48,10 @@ count_then b (Err e) rest = omega arith
 pub one_call : (b : Book) (c : Call) (r : Result (Option Fixing) Refusal) (b' : Book) → answer_of r b' ≡ step accounts b c → record { accepted = cond (is_ok r) 1 0; book = b' } ≡ run_over b (c ∷ [])
 unfolding run accepted_calls step
 one_call b c r b' e =
-    let t : is_ok r ≡ is_accepted accounts b c = sym (is_zero r) ∙ ap (λ (a : Answered). nat_eq a.code 0) e in
-    ap₂ (λ (k : ℕ) (x : Book). record { accepted = k; book = x }) (ap (λ (t : Bool). cond t 1 0) t ∙ kept (is_accepted accounts b c)) (ap (λ (a : Answered). a.book) e)
+    let t : is_ok r ≡ is_accepted accounts b (Operation.Single c) = sym (is_zero r) ∙ ap (λ (a : Answered). nat_eq a.code 0) e in
+    ap₂ (λ (k : ℕ) (x : Book). record { accepted = k; book = x }) (ap (λ (t : Bool). cond t 1 0) t ∙ kept (is_accepted accounts b (Operation.Single c))) (ap (λ (a : Answered). a.book) e)
   where
-    kept : (t : Bool) → cond t 1 0 ≡ length (keep_if t c [])
+    kept : (t : Bool) → cond t 1 0 ≡ length (cond t (c ∷ []) [] ++ [])
     kept true = refl
     kept false = refl
 
@@ -81,8 +78,8 @@ pub ends : {file : List ℕ} {start b : Book} {count at : ℕ} → Running file 
 unfolding run accepted_calls
 ends {file} {start} {b} {count} {at} r e =
     let left : calls_from file at ≡ [] = calls_at_end file at e in
-    let n : count ≡ accepted start (calls_of file) = omega (arith, r.count_is, ap (accepted b) left) in
-    ap₂ (λ (k : ℕ) (c : Book). record { accepted = k; book = c }) n (sym (r.book_is ∙ ap (run accounts b) left))
+    let n : count ≡ accepted_of start (calls_of file) = omega (arith, r.count_is, ap (accepted_of b) left) in
+    ap₂ (λ (k : ℕ) (c : Book). record { accepted = k; book = c }) n (sym (r.book_is ∙ ap (after_calls b) left))
 
 goes_on_by : {file : List ℕ} {start b b' : Book} {before from count at more : ℕ} → Running file start before from b count at → (r : Read) → read_at file at ≡ Some r
     → record { accepted = more; book = b' } ≡ run_over b (called r.call []) → more ≤ 1 → Running file start before from b' (count + more) r.next
@@ -90,14 +87,14 @@ goes_on_by {file} {start} {b} {b'} {before} {from} {count} {at} {more} h r e pla
     let on = further_to file at r e in
     let calls = calls_at file at r e in
     let rest = calls_from file r.next in
-    let book : run accounts b (called r.call []) ≡ b' = sym (ap (λ (x : RunEnd). x.book) played) in
-    let number : accepted b (called r.call []) ≡ more = sym (ap (λ (x : RunEnd). x.accepted) played) in
+    let book : after_calls b (called r.call []) ≡ b' = sym (ap (λ (x : RunEnd). x.book) played) in
+    let number : accepted_of b (called r.call []) ≡ more = sym (ap (λ (x : RunEnd). x.accepted) played) in
     record {
       fewer = omega (arith, h.fewer, on.0);
       inside = on.1;
       onward = omega (arith, h.onward, on.0);
-      book_is = h.book_is ∙ ap (run accounts b) calls ∙ book_then b r.call rest ∙ ap (λ (x : Book). run accounts x rest) book;
-      count_is = omega (arith, h.count_is, ap (accepted b) calls, count_then b r.call rest, number, ap (λ (x : Book). accepted x rest) book);
+      book_is = h.book_is ∙ ap (after_calls b) calls ∙ book_then b r.call rest ∙ ap (λ (x : Book). after_calls x rest) book;
+      count_is = omega (arith, h.count_is, ap (accepted_of b) calls, count_then b r.call rest, number, ap (λ (x : Book). accepted_of x rest) book);
     }
 
 pub goes_on : {file : List ℕ} {start b b' : Book} {before from count at n : ℕ} (t : Bool) → Running file start before from b count at → (r : Read) → read_at file at ≡ Some r
