@@ -15,13 +15,12 @@ use Rattle.calls.specs.Calls.{on_close}
 use Rattle.calls.proofs.Calls.{FixOr, CloseOr, fix, close, fix_or, close_or, on_close_is}
 use Rattle.figures.specs.Fixing.{fix_price}
 use Rattle.calls.proofs.Calls as calls
-use Rattle.ledger.proofs.Held.{held}
-use Rattle.ledger.proofs.Passed.{Passed}
+use Rattle.ledger.proofs.Allowed.{Allowed}
 use Rattle.history.specs.History.{History, Moment, length_of, closings, today, fixes, minutes}
 use Rattle.history.specs.Cash.{at_fix, price_on}
 use Rattle.history.specs.Demand3.{calls_of_days, Whole}
 use Rattle.history.proofs.Kept.{figures_from, book_from, fix_price-price_at}
-use Rattle.history.proofs.Accepted.{AllPassed}
+use Rattle.history.proofs.Accepted.{AllAllowed}
 
 -- ---- every call is in one day
 
@@ -35,23 +34,23 @@ days_and_today (c ∷ h) = by (days_and_today h) (close_or c)
     by rest (calls.CloseOr.other o) = rw (o History [] (c ∷ today h), o (List History) (h ∷ closings h) (closings h)) (ap {B = History} (λ l. c ∷ l) rest)
 
 -- each closed day's close was accepted
-pub closes_passed : (n s : ℕ) (h : History) → AllPassed n s h → Every (λ d. AllPassed n s (call.Close ∷ d)) (closings h)
+pub closes_passed : (n s : ℕ) (h : History) → AllAllowed n s h → Every (λ d. AllAllowed n s (call.Close ∷ d)) (closings h)
 unfolding closings
 closes_passed n s [] a = tt
 closes_passed n s (c ∷ h) a =
     let rest = closes_passed n s h a.1 in
-    on_close_is (λ ds. Every (λ d. AllPassed n s (call.Close ∷ d)) ds) (h ∷ closings h) (closings h) c
+    on_close_is (λ ds. Every (λ d. AllAllowed n s (call.Close ∷ d)) ds) (h ∷ closings h) (closings h) c
     (λ e. (rw e at a, rest)) rest
 
 -- ---- a closed day is whole
 
 -- a day has one fix once P stands, and none before
-one_fix : (n s : ℕ) (h : History) → AllPassed n s h → length (fixes h) ≡ cond (is_present (price_on h)) 1 0
+one_fix : (n s : ℕ) (h : History) → AllAllowed n s h → length (fixes h) ≡ cond (is_present (price_on h)) 1 0
 unfolding closings fixes at_fix
 one_fix n s [] a = refl
 one_fix n s (c ∷ h) a = by (one_fix n s h a.1) (fix_or c) (close_or c)
   where
-    fixes-fix : (set : ℕ) → length (fixes h) ≡ cond (is_present (price_on h)) 1 0 → Passed n (book_from n s h) (call.Fix set) → suc (length (fixes h)) ≡ cond (is_present (price_on (call.Fix set ∷ h))) 1 0
+    fixes-fix : (set : ℕ) → length (fixes h) ≡ cond (is_present (price_on h)) 1 0 → Allowed n (book_from n s h) (call.Fix set) → suc (length (fixes h)) ≡ cond (is_present (price_on (call.Fix set ∷ h))) 1 0
     fixes-fix set rest p =
         let day = or_parts (ltb (minutes h) (length_of h)) (is_present (price_on h)) p.sentences.day in
         ap suc (rest ∙ ap (λ (x : Bool). cond x 1 0) day.1)
@@ -65,18 +64,18 @@ one_fix n s (c ∷ h) a = by (one_fix n s h a.1) (fix_or c) (close_or c)
         rw (o (List Moment) (λ set. record { value = set; before = h } ∷ fixes h) (on_close [] (fixes h) c), k (List Moment) [] (fixes h), k (List History) (h ∷ closings h) (closings h)) rest
 
 -- the day that a close is accepted on is fixed
-fixed : (n s : ℕ) (d : History) → Passed n (book_from n s d) call.Close → is_present (price_on d) ≡ true
+fixed : (n s : ℕ) (d : History) → Allowed n (book_from n s d) call.Close → is_present (price_on d) ≡ true
 fixed n s d p = not-false (is_present (price_on d)) p.sentences.day
 
 -- and within its limits, so that it has all its minutes
-all_minutes : (n s : ℕ) (d : History) → Passed n (book_from n s d) call.Close → minutes d ≡ length_of d
+all_minutes : (n s : ℕ) (d : History) → Allowed n (book_from n s d) call.Close → minutes d ≡ length_of d
 all_minutes n s d p =
     eqb-true (minutes d) (length_of d)
-    (go (is_present (price_on d)) (eqb (minutes d) (length_of d)) (fixed n s d p) (held n (book_from n s d) p.limits).figures.day.fix)
+    (go (is_present (price_on d)) (eqb (minutes d) (length_of d)) (fixed n s d p) p.figures.day.fix)
   where
     go : (x y : Bool) → x ≡ true → (not x || y) ≡ true → y ≡ true
     go true y e f = f
     go false y e f = cc
 
-pub whole : (n s : ℕ) (d : History) → AllPassed n s (call.Close ∷ d) → Whole d
+pub whole : (n s : ℕ) (d : History) → AllAllowed n s (call.Close ∷ d) → Whole d
 whole n s d a = record { minute_count = all_minutes n s d a.0; one_fix = one_fix n s d a.1 ∙ ap (λ (x : Bool). cond x 1 0) (fixed n s d a.0) }

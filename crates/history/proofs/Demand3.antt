@@ -14,7 +14,7 @@ use Rattle.history.specs.History.{closings}
 use Rattle.history.specs.Cash.{net, cash_of}
 use Rattle.history.specs.Demand3.{history, total, DemandThree}
 use Rattle.history.proofs.Kept.{book_from, fresh_is}
-use Rattle.history.proofs.Accepted.{After, after_calls}
+use Rattle.history.proofs.Accepted.{After, after_operations}
 use Rattle.history.proofs.Days.{days_and_today, closes_passed, whole}
 use Rattle.history.proofs.Totals.{every_map, net_cancels, cash_cancels}
 
@@ -27,15 +27,15 @@ opened n s e = go (is_size s) e
     go false e = absurd (suc-ne-zero 4 e)
 
 pub demand_three : DemandThree
-demand_three n s cs e =
-    let r = subst (λ (b : Book). After n s b [] cs) (sym (opened n s e)) (after_calls n s [] cs tt) in
-    let h = history n s cs in
+demand_three n s os e =
+    let r = subst (λ (b : Book). After n s b [] os) (sym (opened n s e)) (after_operations n s [] os tt) in
+    let h = history n s os in
     record {
       cash = λ j k. ap (λ (b : Book). entry b.columns.cash j) r.book_is ∙ table_at n (cash_of s h) j (pos 0) k;
       position = λ j k. ap (λ (b : Book). entry b.columns.position j) r.book_is ∙ table_at n (net h) j (pos 0) k;
       amount = ap (λ (b : Book). b.figures.day.fixed.amount) r.book_is;
-      positions_cancel = ap (λ (b : Book). total b.columns.position) r.book_is ∙ net_cancels n s h r.all_passed;
-      cash_cancels = ap (λ (b : Book). total b.columns.cash) r.book_is ∙ cash_cancels n s h r.all_passed;
+      positions_cancel = ap (λ (b : Book). total b.columns.position) r.book_is ∙ net_cancels n s h r.all_allowed;
+      cash_cancels = ap (λ (b : Book). total b.columns.cash) r.book_is ∙ cash_cancels n s h r.all_allowed;
       days_and_today = days_and_today h;
-      closed_days = every_map (whole n s) (closings h) (closes_passed n s h r.all_passed);
+      closed_days = every_map (whole n s) (closings h) (closes_passed n s h r.all_allowed);
     }

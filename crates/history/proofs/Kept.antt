@@ -34,8 +34,7 @@ use Rattle.counterparties.specs.Counterparties.{exchanged, counted}
 use Rattle.ledger.specs.declared.Book.{Book}
 use Rattle.ledger.specs.Effects.{with_figures, traded_book, closed_book, effect}
 use Rattle.ledger.specs.Step.{fresh}
-use Rattle.ledger.proofs.Held.{held}
-use Rattle.ledger.proofs.Passed.{Passed}
+use Rattle.ledger.proofs.Allowed.{Allowed}
 use Rattle.history.specs.History.{History, length_of, begun, halted, market, minute_market, last, closings, today, closed_part, trades, minute_ends, fixes, minutes, at_last_end, ends_valid, valid_of, valid_minutes, final_trades, tie_of}
 use Rattle.history.specs.Cash.{final_minute, index_on, price_at, at_fix, previous_of, price_on, last_price, rate_on, amount_on, of_account, signed, net, yield, paid, cash_of}
 use Rattle.history.specs.LastMinute.{latest, minute_markets, stood}
@@ -115,7 +114,7 @@ module _ (s : ℕ) (h : History) where
   fix_price-price_at set over = ap (λ m. settlement_price set (final_minute (final_trades h)) m (index_on h) (previous_of (closings h))) (at_fix_time h over)
 
   -- an accepted call leads to the figures of its history: a part of the day at a time
-  pub figures_after-figures_from : (n : ℕ) (c : Call) → Passed n (book_from n s h) c → figures_after (figures_from s h) c ≡ figures_from s (c ∷ h)
+  pub figures_after-figures_from : (n : ℕ) (c : Call) → Allowed n (book_from n s h) c → figures_after (figures_from s h) c ≡ figures_from s (c ∷ h)
   unfolding figures_after length_of begun halted market minute_market last closings minute_ends fixes final_trades at_last_end at_fix previous_of valid_of sum_count weighted_sum latest minute_markets stood
   figures_after-figures_from n (call.Quote m) p =
       let f = figures_after (figures_from s h) (call.Quote m) in
@@ -138,7 +137,7 @@ module _ (s : ℕ) (h : History) where
   figures_after-figures_from n call.Close p = cc (add-one (length (closings h)))
   figures_after-figures_from n (call.DayLength l) p =
       let f = figures_after (figures_from s h) (call.DayLength l) in
-      let d = (held n (book_from n s h) p.limits).figures.day in
+      let d = p.figures.day in
       let start = and_parts (eqb (length_of h) full_day) (eqb (minutes h) 0) (rw p.sentences.day at d.start) in
       let same = after_length h l d.length (not-false (is_length l) p.sentences.field) (eqb-true (minutes h) 0 start.1) in
       λ i. with_day f f.halted (with_timing f.day (record { latest = latest h; midpoints = same i }))
@@ -223,7 +222,7 @@ cost_closed n h = replicate_table n (pos 0) ∙ table_ext n (λ j. pos 0) (cost_
 
 -- ---- the book, call by call
 
-pub effect_is : (n s : ℕ) (h : History) (c : Call) → Passed n (book_from n s h) c → effect n (book_from n s h) c ≡ book_from n s (c ∷ h)
+pub effect_is : (n s : ℕ) (h : History) (c : Call) → Allowed n (book_from n s h) c → effect n (book_from n s h) c ≡ book_from n s (c ∷ h)
 unfolding effect closings today closed_part trades sum_count sum
 effect_is n s h c passed = by (trade_or c) (close_or c)
   where

@@ -11,7 +11,7 @@ use Rattle.counterparties.proofs.Present.{in_range}
 use Rattle.history.specs.History.{History, closings, closed_part, trades}
 use Rattle.history.specs.Cash.{last_price, amount_on, of_account, signed, net, yield, paid, cash_of}
 use Rattle.history.proofs.Sums.{over_all, all_add, all_account, scaled_cancels, sum_cancels}
-use Rattle.history.proofs.Accepted.{AllPassed}
+use Rattle.history.proofs.Accepted.{AllAllowed}
 use Rattle.history.proofs.Days.{closes_passed}
 
 pub every_map : {A : Type 0} {P Q : A → Type 0} → ((x : A) → P x → Q x) → (xs : List A) → Every P xs → Every Q xs
@@ -24,7 +24,7 @@ trade_cancels n t r =
     all_add n (λ j. of_account t.buyer j (pos t.quantity)) (λ j. of_account t.seller j (neg_ℤ (pos t.quantity)))
     ∙ ap₂ ◌+ℤ◌ (all_account n t.buyer (pos t.quantity) r.0) (all_account n t.seller (neg_ℤ (pos t.quantity)) r.1) ∙ +ℤ_invr (pos t.quantity)
 
-trades_cancel : (n s : ℕ) (h : History) → AllPassed n s h → Every (λ t. over_all n (λ j. signed j t) ≡ pos 0) (trades h)
+trades_cancel : (n s : ℕ) (h : History) → AllAllowed n s h → Every (λ t. over_all n (λ j. signed j t) ≡ pos 0) (trades h)
 unfolding trades
 trades_cancel n s [] a = tt
 trades_cancel n s (c ∷ h) a =
@@ -32,26 +32,26 @@ trades_cancel n s (c ∷ h) a =
     on_trade_is (λ ts. Every (λ t. over_all n (λ j. signed j t) ≡ pos 0) ts) (λ t. t ∷ trades h) (trades h) c
     (λ t e. (trade_cancels n t (in_range n t (rw e at a.0).sentences.accounts), rest)) rest
 
-pub net_cancels : (n s : ℕ) (h : History) → AllPassed n s h → over_all n (net h) ≡ pos 0
+pub net_cancels : (n s : ℕ) (h : History) → AllAllowed n s h → over_all n (net h) ≡ pos 0
 net_cancels n s h a = sum_cancels n signed (trades h) (trades_cancel n s h a)
 
 -- what the trades of h yield against the price P
-yield_cancels : (n s P : ℕ) (h : History) → AllPassed n s h → over_all n (λ j. sum (yield s P j) (trades h)) ≡ pos 0
+yield_cancels : (n s P : ℕ) (h : History) → AllAllowed n s h → over_all n (λ j. sum (yield s P j) (trades h)) ≡ pos 0
 yield_cancels n s P h a = sum_cancels n (yield s P) (trades h) (every_map each (trades h) (trades_cancel n s h a))
   where
     each : (t : Trade) → over_all n (λ j. signed j t) ≡ pos 0 → over_all n (λ j. yield s P j t) ≡ pos 0
     each t e = scaled_cancels n (λ j. signed j t *ℤ (pos P -ℤ pos t.price)) (pos s) (scaled_cancels n (λ j. signed j t) (pos P -ℤ pos t.price) e)
 
 -- what a closed day pays
-day_cancels : (n s : ℕ) (d : History) → AllPassed n s (call.Close ∷ d) → over_all n (λ j. paid s j d) ≡ pos 0
+day_cancels : (n s : ℕ) (d : History) → AllAllowed n s (call.Close ∷ d) → over_all n (λ j. paid s j d) ≡ pos 0
 day_cancels n s d a = scaled_cancels n (λ j. net d j *ℤ amount_on s d) (pos 100) (scaled_cancels n (net d) (amount_on s d) (net_cancels n s d a.1))
 
-closed_passed : (n s : ℕ) (ds : List History) → Every (λ d. AllPassed n s (call.Close ∷ d)) ds → AllPassed n s (closed_part ds)
+closed_passed : (n s : ℕ) (ds : List History) → Every (λ d. AllAllowed n s (call.Close ∷ d)) ds → AllAllowed n s (closed_part ds)
 unfolding closed_part
 closed_passed n s [] e = tt
 closed_passed n s (d ∷ ds) e = e.0.1
 
-pub cash_cancels : (n s : ℕ) (h : History) → AllPassed n s h → over_all n (cash_of s h) ≡ pos 0
+pub cash_cancels : (n s : ℕ) (h : History) → AllAllowed n s h → over_all n (cash_of s h) ≡ pos 0
 cash_cancels n s h a =
     let days = closes_passed n s h a in
     all_add n (λ j. sum (yield s (last_price h) j) (trades (closed_part (closings h)))) (λ j. sum (paid s j) (closings h))

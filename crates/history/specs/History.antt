@@ -1,5 +1,6 @@
 -- Demand 3's figures, from the accepted calls alone: the market, the days, and each day's trades, minutes and fixes.
--- A history is the accepted calls with the latest first: `c ∷ h` is the call c after those of h. Nothing here reads a book.
+-- A history is the accepted calls with the latest first: `c ∷ h` is the call c after those of h. The trades of an accepted set are trades among them. Nothing here
+-- reads a book.
 use mathlib.Core.{Bool.Bool, Bool.true, Bool.false, Bool.cond, List.List, List.[], List.◌∷◌}
 use Rattle.std.specs.Prelude.{ℕ, length}
 use Rattle.integers.specs.{declared.Tie.Tie, declared.Tie.TheVariants.Even, Lists.keep_if}

@@ -1,6 +1,7 @@
 pub mod Held
 pub mod Interim
 pub mod Passed
+pub mod Allowed
 pub mod Shape
 pub mod SetRefusal
 pub mod KeepingTrade
