@@ -6,16 +6,17 @@ use mathlib.Core.List.{List}
 use Prim.Native.Nat.{ℕ}
 use lib.ListN.{length-reverse}
 use Rattle.columns.specs.Columns.{accounts}
-use Rattle.ledger.specs.Step.{accepted_calls, opening}
+use Rattle.ledger.specs.Step.{opening}
+use Rattle.ledger.specs.Operations.{singles, accepted_calls}
 use Rattle.history.proofs.Demand3.{demand_three}
 use Rattle.dayfile.specs.Calls.{calls_of}
 use Rattle.host.specs.Run.{run_file, Settled}
 
 pub settled : (size : ℕ) (file : List ℕ) → (opening accounts size).code ≡ 0 → Settled size file (run_file size file).accepted (run_file size file).book.columns.position (run_file size file).book.columns.cash
 settled size file e =
-    let d = demand_three accounts size (calls_of file) e in
+    let d = demand_three accounts size (singles (calls_of file)) e in
     record {
-      calls = sym (length-reverse (accepted_calls accounts (opening accounts size).book (calls_of file)));
+      calls = sym (length-reverse (accepted_calls accounts (opening accounts size).book (singles (calls_of file))));
       position = d.position;
       paid = d.cash;
       positions_cancel = d.positions_cancel;

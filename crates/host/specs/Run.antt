@@ -4,8 +4,8 @@ use Rattle.std.specs.Prelude.{ℕ, ◌<◌}
 use lib.{Dec.eqb, IntN.ℤ, IntN.pos, ListN.length}
 use Rattle.integers.specs.Lists.{Every}
 use Rattle.columns.specs.Columns.{accounts, entry}
-use Rattle.ledger.specs.Step.{opening}
-use Rattle.history.specs.{Cash.net, Cash.cash_of, Demand3.history, Demand3.total, Demand3.calls_of_days, Demand3.Whole, History.closings, History.today}
+use Rattle.ledger.specs.{Step.opening, Operations.singles}
+use Rattle.history.specs.{History.History, Cash.net, Cash.cash_of, Demand3.history, Demand3.total, Demand3.calls_of_days, Demand3.Whole, History.closings, History.today}
 use Rattle.dayfile.specs.Calls.{calls_of}
 use Rattle.records.specs.Run.{RunEnd, run_over}
 use Rattle.printout.specs.Printout.{lines_of}
@@ -29,18 +29,20 @@ reported_positions size file positions cash = cond (taken size (length positions
 abbrev pub reported_cash : ℕ → List ℕ → ℕ → List ℤ → List ℤ
 reported_cash size file positions cash = cond (taken size positions (length cash)) (run_file size file).book.columns.cash cash
 
+-- the history of a file's calls
+abbrev pub history_of : ℕ → List ℕ → History
+history_of size file = history accounts size (singles (calls_of file))
+
 -- demand 3 from bytes: the lists of a run that is taken are the figures of the history of the file's calls, and each sums to zero; the history is its closed
 -- days and the open day put together, and each closed day is whole
 pub record Settled (size : ℕ) (file : List ℕ) (number : ℕ) (positions cash : List ℤ) : Type 0 where
-  pub calls : number ≡ length (history accounts size (calls_of file))
-  pub position : (j : ℕ) → j < accounts → entry positions j ≡ net (history accounts size (calls_of file)) j
-  pub paid : (j : ℕ) → j < accounts → entry cash j ≡ cash_of size (history accounts size (calls_of file)) j
+  pub calls : number ≡ length (history_of size file)
+  pub position : (j : ℕ) → j < accounts → entry positions j ≡ net (history_of size file) j
+  pub paid : (j : ℕ) → j < accounts → entry cash j ≡ cash_of size (history_of size file) j
   pub positions_cancel : total positions ≡ pos 0
   pub cash_cancels : total cash ≡ pos 0
-  pub days_and_today :
-      history accounts size (calls_of file)
-      ≡ today (history accounts size (calls_of file)) ++ calls_of_days (closings (history accounts size (calls_of file)))
-  pub closed_days : Every Whole (closings (history accounts size (calls_of file)))
+  pub days_and_today : history_of size file ≡ today (history_of size file) ++ calls_of_days (closings (history_of size file))
+  pub closed_days : Every Whole (closings (history_of size file))
 
 abbrev pub FromBytes : ℕ → List ℕ → ℕ → ℕ → ℕ → List ℤ → List ℤ → Type 0
 FromBytes size file positions cash number positions' cash' = taken size positions cash ≡ true → Settled size file number positions' cash'
