@@ -15,7 +15,7 @@ fn reference_answers(size: u8, file: &[u8]) -> Vec<Option<Result<(), u8>>> {
     let played = play(size, file, Rules::RIGHT);
     let answers = played.map_or(Vec::new(), |played| played.answers);
     let as_timed = |answer: Answer| match answer {
-        Answer::Accepted(_) => Some(Ok(())),
+        Answer::Accepted(_) | Answer::AcceptedSet => Some(Ok(())),
         Answer::Refused(number) => Some(Err(number)),
         Answer::Unknown => None,
     };

@@ -1,5 +1,7 @@
 //! The calls of a trade date.
 
+use std::iter::once;
+
 /// 02-5: "Accounts become two-byte numbers."
 pub type Account = u16;
 
@@ -10,13 +12,19 @@ pub struct Trade {
     pub kind: u8,
     pub quantity: u32,
     pub price: u32,
-    /// Of its record, 1 or 10. No rule of the documents goes by it.
+    /// Of its record: 1, 10, or that of a set. No rule of the documents goes by it.
     pub tag: u8,
 }
 
 impl Trade {
     pub fn is_with_oneself(self) -> bool {
         self.buyer == self.seller
+    }
+
+    /// Buyer and seller, one account once.
+    pub fn accounts(self) -> impl Iterator<Item = Account> {
+        let other = Some(self.seller).filter(|_| !self.is_with_oneself());
+        once(self.buyer).chain(other)
     }
 
     /// The contracts that the account buys.

@@ -2,11 +2,13 @@
 
 use crate::call::{Call, Market, TimedQuote, Trade};
 use crate::rules::FileRules;
-use dayformat::{header, tag};
+use dayformat::{header, set, tag};
 
-#[derive(Clone, Copy, Debug, PartialEq, Eq)]
+#[derive(Clone, Debug, PartialEq, Eq)]
 pub enum Record {
     Call(Call),
+    /// With its trades in list order.
+    Set(Vec<Trade>),
     WrongLength,
     Unknown,
     CutOff,
@@ -28,17 +30,42 @@ pub fn records(file: &[u8], rules: &dyn FileRules) -> Vec<Record> {
 /// The first record and the bytes after it, none without a whole one.
 fn first_record<'a>(file: &'a [u8], rules: &dyn FileRules) -> Option<(Record, &'a [u8])> {
     let (tag, length, bytes) = header(file)?;
-    match rules.body_length(tag) {
+    match known_length(tag, length, rules) {
         None => Some((Record::Unknown, bytes.get(length..)?)),
         Some(known) if known == length => {
             let (body, after) = bytes.split_at_checked(length)?;
-            Some((Record::Call(call(tag, body, rules)), after))
+            Some((known_record(tag, body, rules), after))
         }
         Some(_) => Some((
             Record::WrongLength,
             rules.after_wrong_length(bytes, length)?,
         )),
     }
+}
+
+/// The length that belongs to a tag, none for an unknown one; of a set, that of the whole trades in a
+/// body as long as the record states.
+fn known_length(tag: u8, stated: usize, rules: &dyn FileRules) -> Option<usize> {
+    match rules.is_set(tag) {
+        true => Some(stated / set::TRADE * set::TRADE),
+        false => rules.body_length(tag),
+    }
+}
+
+/// The record of a known tag and a body of its length.
+fn known_record(tag: u8, body: &[u8], rules: &dyn FileRules) -> Record {
+    match rules.is_set(tag) {
+        true => Record::Set(trades_of_set(body, rules)),
+        false => Record::Call(call(tag, body, rules)),
+    }
+}
+
+fn trades_of_set(body: &[u8], rules: &dyn FileRules) -> Vec<Trade> {
+    let of_set = |body| Trade {
+        tag: set::TAG,
+        ..trade(tag::TWO_BYTE_TRADE, body, rules)
+    };
+    body.chunks_exact(set::TRADE).map(of_set).collect()
 }
 
 /// The call of a known tag and a body of its length. Its fields are read here and not beside their

@@ -88,10 +88,8 @@ impl History {
             after_fix: self.open_day().is_fixed(),
             trade,
         };
-        let mut add = |account| self.trades.entry(account).or_default().push(account_trade);
-        add(trade.buyer);
-        if !trade.is_with_oneself() {
-            add(trade.seller);
+        for account in trade.accounts() {
+            self.trades.entry(account).or_default().push(account_trade);
         }
     }
 

@@ -15,6 +15,7 @@ pub mod printout;
 pub mod program;
 pub mod refusal;
 pub mod rules;
+pub mod sets;
 pub mod settlement;
 pub mod terms;
 
@@ -29,6 +30,11 @@ pub type Lists = ([i64; ACCOUNTS], [i64; ACCOUNTS]);
 /// What `funding-bench` prints for this standard input.
 pub fn bench(input: &[u8]) -> String {
     bench_under(Rules::RIGHT, input)
+}
+
+/// What `set_bench` prints for this standard input, in which records of `set::TAG` are sets of trades.
+pub fn set_bench(input: &[u8]) -> String {
+    bench_under(Rules::WITH_SETS, input)
 }
 
 pub fn bench_under(rules: Rules, input: &[u8]) -> String {

@@ -1,11 +1,12 @@
 //! Plays a file's records against the history of accepted calls.
 
 use crate::accounts::{position, ClosedDays};
-use crate::call::{Account, Call};
+use crate::call::{Account, Call, Trade};
 use crate::file::{records, Record};
 use crate::history::History;
 use crate::refusal::{refusal, FILE};
 use crate::rules::Rules;
+use crate::sets::set_refusal;
 use crate::settlement::{settlement, Settlement};
 use crate::terms::ACCOUNTS;
 use crate::Lists;
@@ -14,6 +15,7 @@ use crate::Lists;
 #[derive(Clone, Copy, Debug, PartialEq, Eq)]
 pub enum Answer {
     Accepted(Call),
+    AcceptedSet,
     Refused(u8),
     Unknown,
 }
@@ -43,19 +45,41 @@ pub fn play(size: u8, file: &[u8], rules: Rules) -> Option<Played> {
 }
 
 fn answer(history: &mut History, record: Record, rules: Rules) -> Answer {
-    let Record::Call(call) = record else {
-        history.add_not_accepted(record);
-        return match record {
-            Record::Unknown => Answer::Unknown,
-            _ => Answer::Refused(FILE),
-        };
-    };
+    match record {
+        Record::Call(call) => answer_to_call(history, call, rules),
+        Record::Set(trades) => answer_to_set(history, trades, rules),
+        Record::Unknown => {
+            history.add_not_accepted(record);
+            Answer::Unknown
+        }
+        Record::WrongLength | Record::CutOff => {
+            history.add_not_accepted(record);
+            Answer::Refused(FILE)
+        }
+    }
+}
+
+fn answer_to_call(history: &mut History, call: Call, rules: Rules) -> Answer {
     let refusal = refusal(history, call, rules);
     match rules.refusals.changes_book(refusal) {
         true => history.add(call),
-        false => history.add_not_accepted(record),
+        false => history.add_not_accepted(Record::Call(call)),
     }
     refusal.map_or(Answer::Accepted(call), Answer::Refused)
+}
+
+fn answer_to_set(history: &mut History, trades: Vec<Trade>, rules: Rules) -> Answer {
+    let refused = set_refusal(history, &trades, rules);
+    for trade in rules.sets.leaves(&trades, refused) {
+        history.add(Call::Trade(trade));
+    }
+    match refused {
+        None => Answer::AcceptedSet,
+        Some(check) => {
+            history.add_not_accepted(Record::Set(trades));
+            Answer::Refused(rules.sets.number(check))
+        }
+    }
 }
 
 impl Played {

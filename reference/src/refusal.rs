@@ -17,6 +17,7 @@ pub const POSITION: u8 = 8;
 pub const NO_PRICE: u8 = 9;
 pub const TIME: u8 = 11;
 pub const ACCOUNT: u8 = 12;
+pub const SET_LENGTH: u8 = 13;
 
 /// One step of the checking order.
 #[derive(Clone, Copy, Debug, PartialEq, Eq)]
@@ -78,15 +79,25 @@ pub fn refusal(history: &History, call: Call, rules: Rules) -> Option<u8> {
     first.map(|check| rules.refusals.number(*check))
 }
 
+/// 3: "any call on a book with 2,600 closed days".
+pub fn is_full(history: &History, rules: Rules) -> bool {
+    history.closed_days() >= rules.refusals.most_closed_days()
+}
+
+pub fn is_halted(history: &History, rules: Rules) -> bool {
+    let (halts, today) = (&history.halts, history.closed_days());
+    rules.calls.is_halted(halts, today)
+}
+
 /// A call that isn't accepted yet.
-struct Asked<'a> {
-    history: &'a History,
-    call: Call,
-    rules: Rules,
+pub struct Asked<'a> {
+    pub history: &'a History,
+    pub call: Call,
+    pub rules: Rules,
 }
 
 impl Asked<'_> {
-    fn meets(&self, check: Check) -> bool {
+    pub fn meets(&self, check: Check) -> bool {
         match (check, &self.call) {
             (Check::Day, _) => self.day_forbids(),
             (Check::Halt, _) => self.halt_forbids(),
@@ -107,7 +118,7 @@ impl Asked<'_> {
         }
     }
 
-    /// "Any call on a book with 2,600 closed days"; "a fix [...] twice; a close without a fix".
+    /// "A fix [...] twice; a close without a fix".
     fn day_forbids(&self) -> bool {
         let (refusals, history) = (self.rules.refusals, self.history);
         let day = history.open_day();
@@ -120,12 +131,11 @@ impl Asked<'_> {
             Call::Trade(_) | Call::Quote(_) | Call::TimedQuote(_) => false,
             Call::Halt | Call::Resume => false,
         };
-        forbidden || history.closed_days() >= refusals.most_closed_days()
+        forbidden || is_full(history, self.rules)
     }
 
     fn halt_forbids(&self) -> bool {
-        let (halts, today) = (&self.history.halts, self.history.closed_days());
-        let halted = self.rules.calls.is_halted(halts, today);
+        let halted = is_halted(self.history, self.rules);
         self.rules.refusals.halt_forbids(self.call, halted)
     }
 

@@ -5,11 +5,15 @@ mod calls;
 mod files;
 mod midpoints;
 mod refusals;
+mod sets;
 
 pub use calls::CallRules;
 pub use files::FileRules;
 pub use midpoints::MidpointRules;
 pub use refusals::RefusalRules;
+pub use sets::SetRules;
+
+use dayformat::set;
 
 /// A ledger's rules. Each part is a trait whose default methods are the documents'.
 #[derive(Clone, Copy)]
@@ -17,6 +21,7 @@ pub struct Rules {
     pub calls: &'static dyn CallRules,
     pub midpoints: &'static dyn MidpointRules,
     pub refusals: &'static dyn RefusalRules,
+    pub sets: &'static dyn SetRules,
     pub files: &'static dyn FileRules,
 }
 
@@ -25,7 +30,14 @@ impl Rules {
         calls: &RightLedger,
         midpoints: &RightLedger,
         refusals: &RightLedger,
+        sets: &RightLedger,
         files: &RightLedger,
+    };
+
+    /// Of `set_bench`, whose input may have sets.
+    pub const WITH_SETS: Rules = Rules {
+        files: &WithSets,
+        ..Rules::RIGHT
     };
 }
 
@@ -35,4 +47,14 @@ pub struct RightLedger;
 impl CallRules for RightLedger {}
 impl MidpointRules for RightLedger {}
 impl RefusalRules for RightLedger {}
+impl SetRules for RightLedger {}
 impl FileRules for RightLedger {}
+
+/// Reads the records of a day file, and sets.
+struct WithSets;
+
+impl FileRules for WithSets {
+    fn is_set(&self, tag: u8) -> bool {
+        tag == set::TAG
+    }
+}

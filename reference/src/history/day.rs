@@ -18,7 +18,7 @@ pub struct Day {
     pub not_accepted: Vec<NotAccepted>,
 }
 
-#[derive(Clone, Copy, Debug, PartialEq, Eq)]
+#[derive(Clone, Debug, PartialEq, Eq)]
 pub struct NotAccepted {
     pub record: Record,
     /// The place among the calls of its day that comes after it.

@@ -14,6 +14,11 @@ pub trait FileRules: Sync {
         body_length(tag)
     }
 
+    /// Whether its records are sets of trades. 02-6: "a set has no file record".
+    fn is_set(&self, _tag: u8) -> bool {
+        false
+    }
+
     /// The bytes of buyer and of seller in a trade. 02-5: "Tag 10 is a trade with two-byte buyer and
     /// seller; tag 1 still reads as before", "buyer 1 byte, seller 1".
     fn account_bytes(&self, tag: u8) -> usize {
@@ -42,7 +47,7 @@ pub trait FileRules: Sync {
 
     /// "Unknown records, which are neither accepted nor refused."
     fn is_accepted(&self, answer: Answer) -> bool {
-        matches!(answer, Answer::Accepted(_))
+        matches!(answer, Answer::Accepted(_) | Answer::AcceptedSet)
     }
 
     /// Whether a list of this length is refused. 02-5: "reports need lists of 1,024, else 10".

@@ -1,6 +1,7 @@
 //! The records of a day file: "A file record is a one-byte tag, a two-byte length, a body, high byte
 //! first." Every Rust package takes tags, lengths and kinds from here.
 
+pub mod set;
 mod writer;
 
 pub use writer::Writer;
