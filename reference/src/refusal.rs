@@ -89,15 +89,27 @@ pub fn is_halted(history: &History, rules: Rules) -> bool {
     rules.calls.is_halted(halts, today)
 }
 
+/// 5: "kind above 2; quantity 0, above 100,000, or below 250 for kind 2; a price no price; [...] a kind 0
+/// price not ticked".
+pub fn trade_is_outside_field(trade: Trade, rules: Rules) -> bool {
+    let price = trade.price.into();
+    let priced = match rules.refusals.kind_is_ticked(trade.kind) {
+        true => rules.calls.is_ticked_price(price),
+        false => rules.calls.is_price(price),
+    };
+    let quantities = rules.refusals.quantities(trade.kind);
+    trade.kind > BLOCK || !quantities.contains(&trade.quantity) || !priced
+}
+
 /// A call that isn't accepted yet.
-pub struct Asked<'a> {
-    pub history: &'a History,
-    pub call: Call,
-    pub rules: Rules,
+struct Asked<'a> {
+    history: &'a History,
+    call: Call,
+    rules: Rules,
 }
 
 impl Asked<'_> {
-    pub fn meets(&self, check: Check) -> bool {
+    fn meets(&self, check: Check) -> bool {
         match (check, &self.call) {
             (Check::Day, _) => self.day_forbids(),
             (Check::Halt, _) => self.halt_forbids(),
@@ -144,7 +156,7 @@ impl Asked<'_> {
     fn is_outside_field(&self) -> bool {
         let calls = self.rules.calls;
         match self.call {
-            Call::Trade(trade) => self.trade_is_outside_field(trade),
+            Call::Trade(trade) => trade_is_outside_field(trade, self.rules),
             Call::Quote(market) => self.market_is_outside_field(market),
             Call::TimedQuote(quote) => {
                 !self.rules.refusals.is_time(quote.time)
@@ -162,18 +174,6 @@ impl Asked<'_> {
         let is_ticked_price = |side: u32| self.rules.calls.is_ticked_price(side.into());
         let mut sides = [market.bid, market.offer].into_iter();
         sides.any(|side| side != 0 && !is_ticked_price(side))
-    }
-
-    /// "Kind above 2; quantity 0, above 100,000, or below 250 for kind 2; a price no price; a kind 0
-    /// price not ticked."
-    fn trade_is_outside_field(&self, trade: Trade) -> bool {
-        let price = trade.price.into();
-        let priced = match self.rules.refusals.kind_is_ticked(trade.kind) {
-            true => self.rules.calls.is_ticked_price(price),
-            false => self.rules.calls.is_price(price),
-        };
-        let quantities = self.rules.refusals.quantities(trade.kind);
-        trade.kind > BLOCK || !quantities.contains(&trade.quantity) || !priced
     }
 
     fn time_runs_back(&self, time: u16) -> bool {

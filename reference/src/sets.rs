@@ -1,9 +1,9 @@
 //! The refusals that a set of trades can meet.
 
 use crate::accounts::position;
-use crate::call::{Account, Call, Trade};
+use crate::call::{Account, Trade};
 use crate::history::History;
-use crate::refusal::{is_full, is_halted, Asked, Check};
+use crate::refusal::{is_full, is_halted, trade_is_outside_field};
 use crate::refusal::{ACCOUNT, DAY, FIELD, HALT, POSITION, SET_LENGTH, VOLUME};
 use crate::rules::Rules;
 use std::collections::BTreeMap;
@@ -43,7 +43,7 @@ pub fn set_refusal(history: &History, trades: &[Trade], rules: Rules) -> Option<
         trades,
         rules,
     };
-    let mut order = rules.sets.checking_order(trades.len()).into_iter();
+    let mut order = rules.sets.checking_order(trades).into_iter();
     order.find(|check| asked.meets(*check))
 }
 
@@ -55,27 +55,18 @@ struct AskedSet<'a> {
 }
 
 impl AskedSet<'_> {
+    /// "Each trade must pass the halt, field and account checks by itself."
     fn meets(&self, check: SetCheck) -> bool {
         let (history, trades, rules) = (self.history, self.trades, self.rules);
         match check {
             SetCheck::Day => is_full(history, rules),
             SetCheck::Halt => rules.sets.halt_forbids(trades, is_halted(history, rules)),
             SetCheck::Length => !rules.sets.is_length(trades.len()),
-            SetCheck::Field(place) => self.trade_meets(place, Check::Field),
-            SetCheck::Account(place) => self.trade_meets(place, Check::Account),
+            SetCheck::Field(place) => trade_is_outside_field(trades[place], rules),
+            SetCheck::Account(place) => rules.refusals.refuses_account(trades[place]),
             SetCheck::Volume(count) => self.passes_volume(check, &trades[..count]),
             SetCheck::Position(count) => self.passes_position(check, &trades[..count]),
         }
-    }
-
-    /// "Each trade must pass the [...] field and account checks by itself."
-    fn trade_meets(&self, place: usize, check: Check) -> bool {
-        let asked = Asked {
-            history: self.history,
-            call: Call::Trade(self.trades[place]),
-            rules: self.rules,
-        };
-        asked.meets(check)
     }
 
     fn passes_volume(&self, check: SetCheck, trades: &[Trade]) -> bool {

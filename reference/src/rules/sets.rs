@@ -16,12 +16,13 @@ pub trait SetRules: Sync {
 
     /// 13 is "checked after 4 [...] and before 5"; "the first in list order that doesn't [pass] gives
     /// its number, and only then come 7 and 8". 01: 3 comes before 4; 02-5: 12 after 5.
-    fn checking_order(&self, trades: usize) -> Vec<SetCheck> {
+    fn checking_order(&self, trades: &[Trade]) -> Vec<SetCheck> {
         let mut order = vec![SetCheck::Day, SetCheck::Halt, SetCheck::Length];
-        for place in 0..trades {
+        for place in 0..trades.len() {
             order.extend([SetCheck::Field(place), SetCheck::Account(place)]);
         }
-        order.extend([SetCheck::Volume(trades), SetCheck::Position(trades)]);
+        let all = trades.len();
+        order.extend([SetCheck::Volume(all), SetCheck::Position(all)]);
         order
     }
 
