@@ -1,6 +1,6 @@
 //! Compares what a program prints with what the reference prints.
 
-use reference::{bench, library_printout};
+use reference::{bench, library_printout, set_bench};
 use std::fs::File;
 use std::path::Path;
 use std::process::{Command, Stdio};
@@ -27,6 +27,11 @@ impl Check {
     /// A program that links the C library and prints accepted count and lists.
     pub fn library(command: &str) -> Self {
         Check::new(command, library_printout)
+    }
+
+    /// A program that prints what `set_bench` prints.
+    pub fn sets(command: &str) -> Self {
+        Check::new(command, set_bench)
     }
 
     fn new(command: &str, expected: fn(&[u8]) -> String) -> Self {

@@ -2,7 +2,7 @@
 
 use crate::random::Random;
 use crate::records::split;
-use dayformat::{tag, Writer};
+use dayformat::{set, tag, Writer, HEADER, LONGEST_BODY};
 
 /// The file with one damage to it.
 pub fn damage(random: &mut Random, file: &[u8]) -> Vec<u8> {
@@ -19,6 +19,15 @@ pub fn damage(random: &mut Random, file: &[u8]) -> Vec<u8> {
         10 => damage_one_of(random, file, tag::LENGTH_OF_DAY),
         11 | 12 => damage_one_of(random, file, tag::TIMED_QUOTE),
         _ => damage_one_of(random, file, tag::TWO_BYTE_TRADE),
+    }
+}
+
+/// The file with one damage to it, mostly to one of its sets.
+pub fn damage_with_sets(random: &mut Random, file: &[u8]) -> Vec<u8> {
+    match random.below(4) {
+        0 => damage(random, file),
+        1 => resize_set(random, file),
+        _ => damage_one_of(random, file, set::TAG),
     }
 }
 
@@ -113,15 +122,19 @@ fn change_length(random: &mut Random, file: &[u8]) -> Vec<u8> {
     records.concat()
 }
 
+/// The place of one of the records of a tag, if there is one.
+fn one_of(random: &mut Random, records: &[Vec<u8>], tag: u8) -> Option<usize> {
+    let is_of_tag = |place: &usize| records[*place][0] == tag;
+    let places: Vec<usize> = (0..records.len()).filter(is_of_tag).collect();
+    (!places.is_empty()).then(|| random.pick(&places))
+}
+
 /// Breaks, cuts off, changes, doubles or moves one of the records of a tag, if there is one.
 fn damage_one_of(random: &mut Random, file: &[u8], tag: u8) -> Vec<u8> {
     let mut records = split(file);
-    let is_of_tag = |place: &usize| records[*place][0] == tag;
-    let places: Vec<usize> = (0..records.len()).filter(is_of_tag).collect();
-    if places.is_empty() {
+    let Some(at) = one_of(random, &records, tag) else {
         return file.to_vec();
-    }
-    let at = random.pick(&places);
+    };
     let next = (at + 1).min(records.len() - 1);
     match random.below(5) {
         0 => records[at] = record(random, tag),
@@ -133,6 +146,24 @@ fn damage_one_of(random: &mut Random, file: &[u8], tag: u8) -> Vec<u8> {
         2 => records[at] = change_byte(random, &records[at]),
         3 => records.insert(at, records[at].clone()),
         _ => records.swap(at, next),
+    }
+    records.concat()
+}
+
+/// Takes bytes from the end of a set, or adds some: a few, or about a trade.
+fn resize_set(random: &mut Random, file: &[u8]) -> Vec<u8> {
+    let mut records = split(file);
+    if let Some(at) = one_of(random, &records, set::TAG) {
+        let mut body = records[at].get(HEADER..).unwrap_or_default().to_vec();
+        let change = random.pick(&[1, set::TRADE - 1, set::TRADE, set::TRADE + 1]);
+        match random.chance(50) {
+            true => body.truncate(body.len().saturating_sub(change)),
+            false => body.extend((0..change).map(|_| random.byte())),
+        }
+        body.truncate(LONGEST_BODY);
+        let mut resized = Writer::new();
+        resized.record(set::TAG, &body);
+        records[at] = resized.bytes;
     }
     records.concat()
 }

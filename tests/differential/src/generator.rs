@@ -2,6 +2,10 @@
 
 mod accounts;
 mod quotes;
+mod sets;
+
+pub use accounts::LARGEST;
+pub use sets::in_set;
 
 use crate::random::Random;
 use dayformat::Writer;

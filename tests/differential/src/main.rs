@@ -1,12 +1,15 @@
-//! `differential --program PATH [--library-runner PATH] --count N --seed S`: see the README.
+//! `differential --program PATH [--library-runner PATH] [--sets PATH] --count N --seed S`: see the README.
 
 use differential::compare::Check;
+use differential::profiles::{input, set_input};
 use differential::runner::{Failure, Runner};
 use std::path::PathBuf;
 
 #[derive(Default)]
 struct Arguments {
     checks: Vec<Check>,
+    /// Whether inputs are those with sets.
+    sets: bool,
     count: u64,
     long: u64,
     seed: u64,
@@ -17,6 +20,10 @@ fn main() {
     let arguments = arguments();
     let runner = Runner {
         checks: arguments.checks.clone(),
+        input: match arguments.sets {
+            true => set_input,
+            false => input,
+        },
         folder: PathBuf::from("target-rust/differential"),
     };
     runner.prepare();
@@ -70,6 +77,10 @@ fn arguments() -> Arguments {
         match name.as_str() {
             "--program" => arguments.checks.push(Check::bench(&value)),
             "--library-runner" => arguments.checks.push(Check::library(&value)),
+            "--sets" => {
+                arguments.checks.push(Check::sets(&value));
+                arguments.sets = true;
+            }
             "--count" => arguments.count = number(),
             "--long" => arguments.long = number(),
             "--seed" => arguments.seed = number(),
@@ -86,7 +97,7 @@ fn arguments() -> Arguments {
 fn usage(problem: &str) -> ! {
     eprintln!("{problem}");
     eprintln!(
-        "usage: differential --program PATH [--library-runner PATH] \
+        "usage: differential --program PATH [--library-runner PATH] [--sets PATH] \
          [--count N] [--seed S] [--long N] [--input FILE]"
     );
     std::process::exit(2);

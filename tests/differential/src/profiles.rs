@@ -7,14 +7,18 @@ mod lengths;
 mod limits;
 mod markets;
 mod midpoints;
+mod sets;
 mod settlements;
 
-use crate::damage::damage;
+use crate::damage::{damage, damage_with_sets};
 use crate::generator::Generator;
+use crate::random::Random;
 use dayformat::kind::SIMPLE;
 use reference::terms::SHORT_DAY;
 
-const PROFILES: [fn(&mut Generator); 25] = [
+type Profile = fn(&mut Generator);
+
+const PROFILES: [Profile; 25] = [
     markets::busy_days,
     markets::few_valid_minutes,
     markets::half_pennies,
@@ -42,13 +46,36 @@ const PROFILES: [fn(&mut Generator); 25] = [
     files::bench_limit,
 ];
 
+/// Of `set_bench`.
+const WITH_SETS: [Profile; 10] = [
+    sets::among_calls,
+    sets::bad_trades,
+    sets::long_lists,
+    sets::halts,
+    sets::starts_of_dates,
+    sets::last_trades,
+    sets::limits,
+    sets::limits,
+    sets::random_bodies,
+    sets::bench_limit,
+];
+
 /// The input of a seed: size byte and file.
 pub fn input(seed: u64) -> Vec<u8> {
+    input_of(seed, &PROFILES, damage)
+}
+
+/// The input of a seed for `set_bench`, with sets.
+pub fn set_input(seed: u64) -> Vec<u8> {
+    input_of(seed, &WITH_SETS, damage_with_sets)
+}
+
+fn input_of(seed: u64, profiles: &[Profile], damage: fn(&mut Random, &[u8]) -> Vec<u8>) -> Vec<u8> {
     let mut generator = Generator::new(seed);
     if generator.random.chance(2) {
         return refused_or_empty(generator);
     }
-    generator.random.pick(&PROFILES)(&mut generator);
+    generator.random.pick(profiles)(&mut generator);
     let damages = match generator.random.chance(25) {
         true => generator.random.between(1, 3),
         false => 0,

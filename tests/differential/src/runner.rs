@@ -1,7 +1,7 @@
 //! Plays many seeds, two processes at a time, and keeps the first difference.
 
 use crate::compare::{Check, Difference};
-use crate::profiles::{input, long_input};
+use crate::profiles::long_input;
 use crate::shrink::shrink;
 use std::path::{Path, PathBuf};
 use std::sync::atomic::{AtomicBool, AtomicU64, Ordering};
@@ -11,6 +11,8 @@ const WORKERS: u64 = 2;
 
 pub struct Runner {
     pub checks: Vec<Check>,
+    /// The input of a seed.
+    pub input: fn(u64) -> Vec<u8>,
     /// Where inputs that differ are saved.
     pub folder: PathBuf,
 }
@@ -37,7 +39,7 @@ impl Runner {
                     if number >= count || stop.load(Ordering::Relaxed) {
                         return;
                     }
-                    let input = input(seed.wrapping_add(number));
+                    let input = (self.input)(seed.wrapping_add(number));
                     let name = seed.wrapping_add(number).to_string();
                     if let Some(failure) = self.play(&name, &input, worker) {
                         stop.store(true, Ordering::Relaxed);

@@ -15,6 +15,9 @@ const NAMED_OF_ONE_BYTE: usize = 4;
 /// one that is named.
 const REFUSED: [Account; 6] = [1_024, 1_027, 1_279, 1_283, 2_047, u16::MAX];
 
+/// The largest quantity of a trade.
+pub const LARGEST: u32 = 100_000;
+
 /// Both accounts in one byte each, if they fit.
 fn in_one_byte(accounts: (Account, Account)) -> Option<(u8, u8)> {
     Some((accounts.0.try_into().ok()?, accounts.1.try_into().ok()?))
@@ -30,6 +33,11 @@ impl Generator {
 
     pub fn any_account(&mut self) -> Account {
         self.random.below(ACCOUNTS as u32) as Account
+    }
+
+    /// None of those that meet often.
+    pub fn other_account(&mut self) -> Account {
+        (self.random.between(20, 90) + 256 * self.random.below(4)) as Account
     }
 
     /// Two accounts that differ, often both of one byte.
@@ -65,16 +73,21 @@ impl Generator {
 
     /// A trade of any kind with values in their fields, now and then of a refused account.
     pub fn any_trade(&mut self) {
+        let accounts = self.accounts_of_any_trade();
+        self.trade_of_any_kind(accounts);
+    }
+
+    /// Mostly two that differ, now and then one twice or a refused one.
+    pub fn accounts_of_any_trade(&mut self) -> (Account, Account) {
         let accounts = match self.random.below(100) {
             0..=13 => (self.account(), self.account()),
             14..=16 => self.refused_accounts(),
             _ => self.two_accounts(),
         };
-        let accounts = match self.random.chance(8) {
+        match self.random.chance(8) {
             true => (accounts.0, accounts.0),
             false => accounts,
-        };
-        self.trade_of_any_kind(accounts);
+        }
     }
 
     pub fn trade_of_refused_account(&mut self) {
@@ -83,7 +96,13 @@ impl Generator {
     }
 
     pub fn trade_of_any_kind(&mut self, accounts: (Account, Account)) {
-        let (kind, quantity, price) = match self.random.below(5) {
+        let (kind, quantity, price) = self.any_kind();
+        self.trade(accounts, kind, quantity, price);
+    }
+
+    /// A kind with a quantity and a price in their fields.
+    pub fn any_kind(&mut self) -> (u8, u32, u32) {
+        match self.random.below(5) {
             0 => (kind::SPREAD, self.random.between(1, 40), self.near_price()),
             1 => (
                 kind::BLOCK,
@@ -95,7 +114,19 @@ impl Generator {
                 self.random.between(1, 40),
                 self.near_ticked_price(),
             ),
-        };
-        self.trade(accounts, kind, quantity, price);
+        }
+    }
+
+    /// A kind, a quantity and a price of which one is outside its field.
+    pub fn outside_field(&mut self) -> (u8, u32, u32) {
+        let price = self.near_ticked_price();
+        self.random.pick(&[
+            (3, 1, price),
+            (kind::SIMPLE, 0, price),
+            (kind::SIMPLE, 1, price + 1),
+            (kind::SPREAD, LARGEST + 1, price),
+            (kind::SPREAD, 1, 4_999),
+            (kind::BLOCK, 249, price),
+        ])
     }
 }

@@ -1,8 +1,8 @@
 //! Accounts of both tags, and refused accounts beside the other refusals of a trade.
 
-use crate::generator::Generator;
-use crate::profiles::limits::{trades, LARGEST};
-use dayformat::kind::{BLOCK, SIMPLE, SPREAD};
+use crate::generator::{Generator, LARGEST};
+use crate::profiles::limits::trades;
+use dayformat::kind::SIMPLE;
 use dayformat::{tag, Writer, HEADER};
 use reference::call::Account;
 
@@ -115,15 +115,7 @@ fn refused_trades(generator: &mut Generator) {
 /// A trade of a refused account with another value outside its field.
 fn outside_field(generator: &mut Generator) {
     let accounts = generator.refused_accounts();
-    let price = generator.near_ticked_price();
-    let (kind, quantity, price) = generator.random.pick(&[
-        (3, 1, price),
-        (SIMPLE, 0, price),
-        (SIMPLE, 1, price + 1),
-        (SPREAD, LARGEST + 1, price),
-        (SPREAD, 1, 4_999),
-        (BLOCK, 249, price),
-    ]);
+    let (kind, quantity, price) = generator.outside_field();
     generator.trade(accounts, kind, quantity, price);
 }
 

@@ -38,12 +38,7 @@ pub fn refused_sizes(generator: &mut Generator) {
 
 /// Records around the end of the 65,536 bytes that the bench counts.
 pub fn bench_limit(generator: &mut Generator) {
-    short_files(generator);
-    let before = 1 + generator.file.bytes.len() + HEADER;
-    let gap = generator.random.below(12) as usize;
-    generator
-        .file
-        .record(77, &vec![0; BENCH_LIMIT - before - gap]);
+    up_to_bench_limit(generator, 12);
     for _ in 0..5 {
         match generator.random.below(4) {
             0 => generator.any_trade(),
@@ -55,4 +50,14 @@ pub fn bench_limit(generator: &mut Generator) {
             }
         }
     }
+}
+
+/// Records up to less than so many bytes before that end.
+pub fn up_to_bench_limit(generator: &mut Generator, left: u32) {
+    short_files(generator);
+    let before = 1 + generator.file.bytes.len() + HEADER;
+    let gap = generator.random.below(left) as usize;
+    generator
+        .file
+        .record(77, &vec![0; BENCH_LIMIT - before - gap]);
 }

@@ -1,10 +1,8 @@
 //! Limits met exactly and passed by one.
 
-use crate::generator::Generator;
+use crate::generator::{Generator, LARGEST};
 use dayformat::kind::{BLOCK, SIMPLE, SPREAD};
 use reference::call::Account;
-
-pub const LARGEST: u32 = 100_000;
 
 /// Positions and volumes filled to their limits, over one or two days.
 pub fn positions_and_volumes(generator: &mut Generator) {
@@ -86,7 +84,7 @@ fn fill_volumes_of_one_low_byte(generator: &mut Generator) {
 /// One trade past the position of one account and the volume of the same or the other.
 fn pass_both(generator: &mut Generator) {
     let (long, short) = generator.two_accounts();
-    let third = (generator.random.between(20, 90) + 256 * generator.random.below(4)) as Account;
+    let third = generator.other_account();
     trades(generator, (long, short), 12, LARGEST);
     trades(generator, (third, third), 10, LARGEST);
     match generator.random.below(3) {

@@ -133,13 +133,18 @@ fn spread_edge(generator: &mut Generator) -> usize {
 
 /// Blocks and spread trades around simple ones, in any minute and in the last.
 pub fn last_trades(generator: &mut Generator) {
+    around_market(generator, trades_of_each_kind);
+}
+
+/// Days with a market at the level, and such events in some minutes and in the last.
+pub fn around_market(generator: &mut Generator, events: fn(&mut Generator) -> usize) {
     for _ in 0..generator.random.between(1, 5) {
         let length = generator.start_date();
         let (bid, offer) = market_at_level(generator);
         generator.quote(bid, offer);
         let busy = generator.random.between(1, 8) as usize;
-        generator.minutes(length - 1, busy, trades_of_each_kind);
-        trades_of_each_kind(generator);
+        generator.minutes(length - 1, busy, events);
+        events(generator);
         generator.quiet_last_minute();
         generator.fix_and_close();
     }
@@ -151,22 +156,27 @@ fn market_at_level(generator: &Generator) -> (u32, u32) {
     (generator.level - half, generator.level + half)
 }
 
-/// Trades at the sides of that market, within and outside it.
 fn trades_of_each_kind(generator: &mut Generator) -> usize {
-    let (bid, offer) = market_at_level(generator);
     for _ in 0..generator.random.between(1, 4) {
         let accounts = generator.two_accounts();
-        let within = generator.random.between(bid, offer) / 10 * 10;
-        let prices = [bid - 10, bid, within, within, offer, offer + 10];
-        let price = generator.random.pick(&prices);
-        let kind = generator.random.pick(&[SIMPLE, SPREAD, BLOCK]);
-        let off_the_tick = match kind {
-            SIMPLE => 0,
-            _ => generator.random.below(10),
-        };
-        generator.trade(accounts, kind, 250, price + off_the_tick);
+        let (kind, price) = kind_and_price_around_market(generator);
+        generator.trade(accounts, kind, 250, price);
     }
     0
+}
+
+/// At a side of that market, within it or outside.
+pub fn kind_and_price_around_market(generator: &mut Generator) -> (u8, u32) {
+    let (bid, offer) = market_at_level(generator);
+    let within = generator.random.between(bid, offer) / 10 * 10;
+    let prices = [bid - 10, bid, within, within, offer, offer + 10];
+    let price = generator.random.pick(&prices);
+    let kind = generator.random.pick(&[SIMPLE, SPREAD, BLOCK]);
+    let off_the_tick = match kind {
+        SIMPLE => 0,
+        _ => generator.random.below(10),
+    };
+    (kind, price + off_the_tick)
 }
 
 /// One-sided markets, halts and resumes within and across minutes.
