@@ -7,11 +7,15 @@ mod files;
 mod lengths;
 mod midpoints;
 mod minutes;
+mod of_tag;
 mod refusals;
 mod rounding;
+mod sets;
 mod settlement;
 mod times;
 mod two_byte_trades;
+
+pub use sets::WITH_SETS;
 
 use account_numbers::*;
 use accounts::*;
@@ -32,7 +36,8 @@ pub struct WrongLedger {
 }
 
 pub fn named(name: &str) -> Option<&'static WrongLedger> {
-    ALL.iter().find(|wrong| wrong.name == name)
+    let mut all = ALL.iter().chain(&WITH_SETS);
+    all.find(|wrong| wrong.name == name)
 }
 
 const fn in_calls(name: &'static str, calls: &'static dyn CallRules) -> WrongLedger {
@@ -271,8 +276,11 @@ pub static ALL: [WrongLedger; 187] = [
         "two-byte-block-in-settlement",
         &TWO_BYTE_BLOCK_IN_SETTLEMENT,
     ),
-    in_calls("two-byte-trade-leaves-cost", &TwoByteTradeLeavesCost),
-    in_calls("two-byte-trade-leaves-volume", &TwoByteTradeLeavesVolume),
+    in_calls("two-byte-trade-leaves-cost", &TWO_BYTE_TRADE_LEAVES_COST),
+    in_calls(
+        "two-byte-trade-leaves-volume",
+        &TWO_BYTE_TRADE_LEAVES_VOLUME,
+    ),
     in_files("two-byte-trade-not-counted", &TwoByteTradeNotCounted),
     // Files, printouts and reports.
     in_files("close-prints-both-nonzero", &ClosePrintsBothNonzero),

@@ -1,7 +1,8 @@
-//! `wrong-bench [--wrong NAME] [--library]`: a wrong ledger, or the reference without a name, in the
-//! place of `funding-bench` or of a program that links the C library.
+//! `wrong-bench [--wrong NAME | --sets] [--library]`: a wrong ledger, or the reference without a name, in
+//! the place of `funding-bench` or of a program that links the C library. The wrong ledgers of sets stand
+//! in the place of `set_bench`, and so does the reference with `--sets`.
 
-use differential::wrong::{named, ALL};
+use differential::wrong::{named, ALL, WITH_SETS};
 use reference::program::play_standard_input;
 use reference::rules::Rules;
 
@@ -12,6 +13,7 @@ fn main() {
     while let Some(argument) = arguments.next() {
         match argument.as_str() {
             "--library" => library = true,
+            "--sets" => rules = Rules::WITH_SETS,
             "--wrong" => rules = rules_named(arguments.next()),
             _ => usage(),
         }
@@ -25,9 +27,9 @@ fn rules_named(name: Option<String>) -> Rules {
 }
 
 fn usage() -> ! {
-    eprintln!("usage: wrong-bench [--wrong NAME] [--library]");
+    eprintln!("usage: wrong-bench [--wrong NAME | --sets] [--library]");
     eprintln!("wrong ledgers:");
-    for wrong in &ALL {
+    for wrong in ALL.iter().chain(&WITH_SETS) {
         eprintln!("  {}", wrong.name);
     }
     std::process::exit(2);

@@ -15,7 +15,7 @@ use std::ops::Range;
 /// The accounts of one byte.
 const ONE_BYTE_ACCOUNTS: usize = 256;
 
-fn is_of_one_byte(account: Account) -> bool {
+pub fn is_of_one_byte(account: Account) -> bool {
     usize::from(account) < ONE_BYTE_ACCOUNTS
 }
 

@@ -1,20 +1,15 @@
 //! Trades of tag 10 that do another thing than those of tag 1.
 
 use crate::wrong::lengths::LengthAfter;
+use crate::wrong::of_tag::{is_trade_of, LastOf, NoCostOf, SettlementOf, VolumeOf};
 use crate::wrong::times::TimeResetBy;
-use dayformat::tag;
-use reference::accounts::ClosedDays;
-use reference::call::{Account, Call, Trade};
-use reference::history::AccountTrade;
+use dayformat::tag::TWO_BYTE_TRADE;
+use reference::call::Call;
 use reference::play::Answer;
-use reference::rules::{CallRules, FileRules, RefusalRules, RightLedger};
-
-fn is_two_byte(trade: Trade) -> bool {
-    trade.tag == tag::TWO_BYTE_TRADE
-}
+use reference::rules::{FileRules, RefusalRules, RightLedger};
 
 fn is_two_byte_trade(call: Call) -> bool {
-    matches!(call, Call::Trade(trade) if is_two_byte(trade))
+    is_trade_of(call, TWO_BYTE_TRADE)
 }
 
 pub static LENGTH_AFTER_TWO_BYTE_TRADE: LengthAfter = LengthAfter(is_two_byte_trade);
@@ -28,57 +23,12 @@ impl RefusalRules for TwoByteTradeAcceptedInHalt {
     }
 }
 
-/// Whether one of tag 10 sets the last price.
-pub struct TwoByteLast(fn(Trade) -> bool);
-
-impl CallRules for TwoByteLast {
-    fn sets_last(&self, trade: Trade) -> bool {
-        match is_two_byte(trade) {
-            true => self.0(trade),
-            false => RightLedger.sets_last(trade),
-        }
-    }
-}
-
-pub static TWO_BYTE_TRADE_LEAVES_LAST: TwoByteLast = TwoByteLast(|_| false);
-pub static TWO_BYTE_BLOCK_SETS_LAST: TwoByteLast = TwoByteLast(|_| true);
-
-/// Whether one of tag 10 adds to n and gross.
-pub struct TwoByteSettlement(fn(Trade) -> bool);
-
-impl CallRules for TwoByteSettlement {
-    fn counts_in_settlement(&self, trade: Trade) -> bool {
-        match is_two_byte(trade) {
-            true => self.0(trade),
-            false => RightLedger.counts_in_settlement(trade),
-        }
-    }
-}
-
-pub static TWO_BYTE_TRADE_NOT_IN_SETTLEMENT: TwoByteSettlement = TwoByteSettlement(|_| false);
-pub static TWO_BYTE_BLOCK_IN_SETTLEMENT: TwoByteSettlement = TwoByteSettlement(|_| true);
-
-pub struct TwoByteTradeLeavesCost;
-
-impl CallRules for TwoByteTradeLeavesCost {
-    fn gain(&self, trade: &AccountTrade, closed: &ClosedDays) -> i128 {
-        match is_two_byte(trade.trade) {
-            true => closed.last_price,
-            false => RightLedger.gain(trade, closed),
-        }
-    }
-}
-
-pub struct TwoByteTradeLeavesVolume;
-
-impl CallRules for TwoByteTradeLeavesVolume {
-    fn contracts(&self, trade: Trade, account: Account) -> i128 {
-        match is_two_byte(trade) {
-            true => 0,
-            false => RightLedger.contracts(trade, account),
-        }
-    }
-}
+pub static TWO_BYTE_TRADE_LEAVES_LAST: LastOf = LastOf(TWO_BYTE_TRADE, |_| false);
+pub static TWO_BYTE_BLOCK_SETS_LAST: LastOf = LastOf(TWO_BYTE_TRADE, |_| true);
+pub static TWO_BYTE_TRADE_NOT_IN_SETTLEMENT: SettlementOf = SettlementOf(TWO_BYTE_TRADE, |_| false);
+pub static TWO_BYTE_BLOCK_IN_SETTLEMENT: SettlementOf = SettlementOf(TWO_BYTE_TRADE, |_| true);
+pub static TWO_BYTE_TRADE_LEAVES_COST: NoCostOf = NoCostOf(TWO_BYTE_TRADE);
+pub static TWO_BYTE_TRADE_LEAVES_VOLUME: VolumeOf = VolumeOf(TWO_BYTE_TRADE, |_, _| 0);
 
 /// The run for C doesn't count them.
 pub struct TwoByteTradeNotCounted;
