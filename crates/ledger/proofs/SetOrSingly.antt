@@ -1,9 +1,9 @@
 -- The same trades by set or singly: the statements of specs/SetOrSingly.antt.
---     same_book, singly_then_set, set_of_one
+--     set_or_singly, singly_then_set, set_of_one
 -- Assumes nothing.
 use mathlib.Core.Path.{◌≡◌, refl, sym, ◌∙◌, ap}
 use mathlib.Core.Bool.{Bool, true, false, not, cond, true≢false}
-use mathlib.Core.List.{List, [], ◌∷◌}
+use mathlib.Core.List.{List, [], ◌∷◌, ◌++◌}
 use Prim.Native.Nat.{ℕ}
 use lib.Dec.{eqb}
 use Rattle.std.specs.Prelude.{Option, None}
@@ -15,6 +15,7 @@ use Rattle.ledger.specs.Sets.{trade_sentences}
 use Rattle.integers.specs.Lists.{Every}
 use Rattle.calls.specs.declared.Call.TheVariants as call
 use Rattle.calls.specs.declared.Trade.{Trade}
+use Rattle.calls.specs.declared.Call.{Call}
 use Rattle.counterparties.specs.Counterparties.{are_accounts}
 use Rattle.trading.specs.Inner.{Passes}
 use Rattle.ledger.specs.declared.Book.{Book}
@@ -22,9 +23,9 @@ use Rattle.ledger.specs.Effects.{effect}
 use Rattle.ledger.specs.Refusals.{refusal, within_limits}
 use Rattle.ledger.specs.Step.{step}
 use Rattle.ledger.specs.Sets.{set_effect, set_refusal, trade_set}
-use Rattle.ledger.specs.Operations.{run, singles, trade_calls}
+use Rattle.ledger.specs.Operations.{Operation, run, accepted_calls, singles, trade_calls}
 use Rattle.ledger.specs.Keeping.{Shaped}
-use Rattle.ledger.specs.SetOrSingly.{AllAccepted, SameBook, SinglyThenSet, SetOfOne}
+use Rattle.ledger.specs.SetOrSingly.{AllAccepted, SetOrSingly, SinglyThenSet, SetOfOne}
 use Rattle.ledger.proofs.Passed.{passed, passes_itself}
 use Rattle.ledger.proofs.SetRefusal.{by_passed}
 use Rattle.ledger.proofs.Shape.{shape_kept}
@@ -32,17 +33,28 @@ use Rattle.ledger.proofs.Held.{Held, held}
 use Rattle.ledger.proofs.Interim.{volumes_of, positions_of, volumes_after, positions_after}
 use Rattle.ledger.proofs.Keeping.{limits_kept}
 
--- the book after accepted trades, one by one
-accepted_book : (n : ℕ) (b : Book) (ts : List Trade) → AllAccepted n b (trade_calls ts) → run n b (singles (trade_calls ts)) ≡ set_effect n b ts
-unfolding run set_effect step
-accepted_book n b [] a = refl
-accepted_book n b (t ∷ ts) a =
-    let e : (step n b (call.Trade t)).book ≡ effect n b (call.Trade t) = rw a.0 in
-    ap (λ (x : Book). run n x (singles (trade_calls ts))) e ∙ accepted_book n (effect n b (call.Trade t)) ts (rw e at a.1)
+-- ---- by set or singly
 
-pub same_book : SameBook
-unfolding trade_set
-same_book n b ts r a = accepted_book n b ts a ∙ rw r
+module _ (n : ℕ) where
+  -- accepted trades, one by one, and what follows them
+  one_by_one : (b : Book) (ts : List Trade) (os : List Operation) → AllAccepted n b (trade_calls ts) → run n b (singles (trade_calls ts) ++ os) ≡ run n (set_effect n b ts) os
+  unfolding run set_effect step
+  one_by_one b [] os a = refl
+  one_by_one b (t ∷ ts) os a =
+      let e : (step n b (call.Trade t)).book ≡ effect n b (call.Trade t) = rw a.0 in
+      ap (λ (x : Book). run n x (singles (trade_calls ts) ++ os)) e ∙ one_by_one (effect n b (call.Trade t)) ts os (rw e at a.1)
+
+  calls_one_by_one : (b : Book) (ts : List Trade) (os : List Operation) → AllAccepted n b (trade_calls ts) → accepted_calls n b (singles (trade_calls ts) ++ os) ≡ trade_calls ts ++ accepted_calls n (set_effect n b ts) os
+  unfolding accepted_calls set_effect step
+  calls_one_by_one b [] os a = refl
+  calls_one_by_one b (t ∷ ts) os a =
+      let e : (step n b (call.Trade t)).book ≡ effect n b (call.Trade t) = rw a.0 in
+      rw a.0 (ap (λ (cs : List Call). call.Trade t ∷ cs) (calls_one_by_one (effect n b (call.Trade t)) ts os (rw e at a.1)))
+
+pub set_or_singly : SetOrSingly
+unfolding run accepted_calls trade_set
+set_or_singly n b ts os r a =
+    record { book = one_by_one n b ts os a ∙ rw r; calls = calls_one_by_one n b ts os a ∙ rw r }
 
 -- ---- trades that are each accepted
 
