@@ -2,11 +2,13 @@
 use crate::numbers::{Mistake, Numbers, name_of};
 use calls::{Call, Kind, TimedQuote, Trade};
 use funding::market::Market;
-use std::str::FromStr;
 
 #[derive(Clone, Copy)]
-pub enum Command {
+pub enum Command<'a> {
     Call(Call),
+    // a list of trades, as the case has it: a set of them, and one after another
+    Set(&'a str),
+    Trades(&'a str),
     Opening(u32),
     MinuteEnds { index: u32, count: u32 },
     // the lengths of the lists
@@ -16,37 +18,37 @@ pub enum Command {
     Row,
 }
 
-impl Command {
-    // The calls of a row, which ends with a report.
-    pub const ROW: [Call; 9] = [
-        Call::Quote(Market {
+// The trade of a row, by itself and as a set.
+pub const ROW_TRADE: Trade = Trade {
+    buyer: 1,
+    seller: 2,
+    kind: Kind::Simple,
+    quantity: 1,
+    price: 200_200,
+};
+// The calls of a row. A set and a report come after them.
+pub const ROW: [Call; 9] = [
+    Call::Quote(Market {
+        bid: 200_100,
+        offer: 200_300,
+    }),
+    Call::Trade(ROW_TRADE),
+    Call::Halt,
+    Call::Resume,
+    Call::MinuteEnd(200_000),
+    Call::Fix(200_200),
+    Call::Close,
+    Call::DayLength(1_140),
+    Call::TimedQuote(TimedQuote {
+        time: 30_000,
+        market: Market {
             bid: 200_100,
             offer: 200_300,
-        }),
-        Call::Trade(Trade {
-            buyer: 1,
-            seller: 2,
-            kind: Kind::Simple,
-            quantity: 1,
-            price: 200_200,
-        }),
-        Call::Halt,
-        Call::Resume,
-        Call::MinuteEnd(200_000),
-        Call::Fix(200_200),
-        Call::Close,
-        Call::DayLength(1_140),
-        Call::TimedQuote(TimedQuote {
-            time: 30_000,
-            market: Market {
-                bid: 200_100,
-                offer: 200_300,
-            },
-        }),
-    ];
-}
+        },
+    }),
+];
 
-fn trade(numbers: &mut Numbers<'_>) -> Result<Trade, Mistake> {
+pub fn trade(numbers: &mut Numbers<'_>) -> Result<Trade, Mistake> {
     Ok(Trade {
         buyer: numbers.next()?,
         seller: numbers.next()?,
@@ -79,16 +81,17 @@ fn call(name: &str, numbers: &mut Numbers<'_>) -> Result<Option<Call>, Mistake> 
     }))
 }
 
-impl FromStr for Command {
-    type Err = Mistake;
-
-    fn from_str(text: &str) -> Result<Self, Mistake> {
+impl<'a> Command<'a> {
+    pub fn of(text: &'a str) -> Result<Self, Mistake> {
         let name = name_of(text);
         let mut numbers = Numbers::of(text);
         if let Some(call) = call(name, &mut numbers)? {
             return Ok(Command::Call(call));
         }
+        let list = text.strip_prefix(name).unwrap_or_default();
         Ok(match name {
+            "set" => Command::Set(list),
+            "trades" => Command::Trades(list),
             "opening" => Command::Opening(numbers.next()?),
             "minute ends of" => Command::MinuteEnds {
                 index: numbers.next()?,

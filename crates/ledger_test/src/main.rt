@@ -11,6 +11,7 @@ mod numbers;
 mod outcome;
 mod player;
 mod reports;
+mod trades;
 
 use player::Player;
 use std::io;

@@ -1,10 +1,11 @@
 // Plays the cases, line by line.
 use crate::book::empty_book;
-use crate::command::Command;
+use crate::command::{Command, ROW, ROW_TRADE};
 use crate::draft::Draft;
 use crate::numbers::Numbers;
 use crate::outcome::{Outcome, answer_to, report};
-use crate::{changes, reports};
+use crate::{changes, reports, trades};
+use calls::Trade;
 use columns::ACCOUNTS;
 use figures::product::Product;
 use ledger::{Answer, Book};
@@ -36,17 +37,22 @@ fn products(rt: &impl Print) -> io::Result<()> {
     )
 }
 
+// Prints the number of an answer, and says whether a refused call hands the same book back.
+fn print_number(rt: &(impl Print + AllocGlobal), book: &Book, answer: &Answer) -> io::Result<bool> {
+    let outcome = Outcome(answer.outcome);
+    print!(rt; " {}", outcome.number())?;
+    let changes = changes::between(rt.alloc(), book, &answer.book)?;
+    Ok(!outcome.is_refused() || changes.is_empty())
+}
+
 // The numbers that the calls of a row come to on this book, and whether the refused ones hand the same book back.
 fn row(rt: &(impl Print + AllocGlobal), book: Book) -> io::Result<()> {
     rt.print(":")?;
     let mut is_same = true;
-    for call in Command::ROW {
-        let answer = answer_to(book, call);
-        let outcome = Outcome(answer.outcome);
-        print!(rt; " {}", outcome.number())?;
-        let changes = changes::between(rt.alloc(), &book, &answer.book)?;
-        is_same &= !outcome.is_refused() || changes.is_empty();
+    for call in ROW {
+        is_same &= print_number(rt, &book, &answer_to(book, call))?;
     }
+    is_same &= print_number(rt, &book, &book.trade_set(&[ROW_TRADE]))?;
     let reported = report(&book, &mut [0; ACCOUNTS], &mut [0; ACCOUNTS]);
     print!(rt; " {}{}", reported.number(), sameness(is_same))
 }
@@ -95,16 +101,21 @@ impl<'a> Player<'a> {
             Some((_, call)) => call,
             None => line,
         };
-        match call.parse() {
+        match Command::of(call) {
             Ok(command) => self.play(rt, command)?,
             Err(mistake) => rt.print(mistake)?,
         }
         println!(rt)
     }
 
-    fn play(&mut self, rt: &(impl Print + AllocGlobal), command: Command) -> io::Result<()> {
+    fn play(&mut self, rt: &(impl Print + AllocGlobal), command: Command<'_>) -> io::Result<()> {
         match command {
             Command::Call(call) => self.take(rt, answer_to(self.book, call)),
+            Command::Set(list) => {
+                let trades = trades::read(rt, list)?;
+                self.take(rt, self.book.trade_set(&trades))
+            }
+            Command::Trades(list) => self.trade_singly(rt, &trades::read(rt, list)?),
             Command::Opening(size) => self.take(rt, Book::opening(size)),
             Command::MinuteEnds { index, count } => self.end_minutes(rt, index, count),
             Command::Report { positions, cash } => reports::print(rt, self.book, positions, cash),
@@ -124,6 +135,22 @@ impl<'a> Player<'a> {
         }
         self.book = answer.book;
         Ok(())
+    }
+
+    // Prints the numbers of trades that come one after another, and what they change together.
+    fn trade_singly(
+        &mut self,
+        rt: &(impl Print + AllocGlobal),
+        trades: &[Trade],
+    ) -> io::Result<()> {
+        let before = self.book;
+        rt.print(":")?;
+        for trade in trades {
+            let answer = self.book.trade(*trade);
+            print!(rt; " {}", Outcome(answer.outcome).number())?;
+            self.book = answer.book;
+        }
+        changes::print(rt, &changes::between(rt.alloc(), &before, &self.book)?)
     }
 
     fn end_minutes(
