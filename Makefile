@@ -51,9 +51,11 @@ compare:
 	tools/compare $(DAY)
 
 fuzz: program
+	tests/build-program set_bench
 	tests/run-hosts
 	target-rust/release/differential --program target/bin/funding_bench --program 'target-rust/hosts/library_runner printout' \
 		--library-runner target-rust/hosts/library_runner --count $(N) --seed $(SEED)
+	target-rust/release/differential --sets target/bin/set_bench --count $(N) --seed $(SEED)
 
 speed:
 	benchmarks/run
