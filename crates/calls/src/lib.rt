@@ -11,7 +11,7 @@ use funding::market::Market;
 pub const MOST_QUANTITY: u32 = 100_000;
 
 pub const LEAST_BLOCK: u32 = 250;
-// The trades of a set.
+// The most trades that a set may have.
 pub const MOST_TRADES: usize = 500;
 // The lengths of a day, in minutes: an ordinary one, and one that ends early before a holiday.
 pub const FULL_DAY: u32 = MOST_MINUTES;

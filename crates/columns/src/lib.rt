@@ -2,11 +2,9 @@
 #![tactic(auto)]
 
 ghost use Rattle.std.specs.Prelude.{◌≡◌, ◌<◌, ◌≤◌};
-ghost use Rattle.integers.specs.Size.{within};
 ghost use Rattle.refusals.specs.Refusals.{most_days};
 ghost use Rattle.columns.specs.Columns.{accounts, account_at, count_at, zero_columns, all_below, sum_below};
-ghost use Rattle.columns.specs.Limits.{most_position, account_holds, holds_at, volume_holds};
-ghost use Rattle.columns.specs.Limits.{position_holds as Limits·position_holds};
+ghost use Rattle.columns.specs.Limits.{position_holds, volume_holds, account_holds, holds_at, volumes_hold, positions_hold};
 
 use integers::is_within;
 use prices::LARGEST_PRICE;
@@ -32,9 +30,15 @@ pub struct Account {
 
 // A position's limit is a fixed number, so that the machine makes both comparisons in one.
 fn position_holds(position: i64) -> bool
-    ensures { result ≡ within position most_position }
+    ensures { result ≡ position_holds position }
 {
     (-MOST_POSITION..=MOST_POSITION).contains(&position)
+}
+
+fn volume_holds(volume: u32) -> bool
+    ensures { result ≡ volume_holds volume }
+{
+    volume <= MOST_VOLUME
 }
 
 impl Account {
@@ -46,7 +50,7 @@ impl Account {
     {
         position_holds(self.opening)
             & position_holds(self.position)
-            & (self.volume <= MOST_VOLUME)
+            & volume_holds(self.volume)
             & is_within(self.cost, u64::from(self.volume) * u64::from(LARGEST_PRICE))
             & is_within(self.cash, u64::from(closed) * MOST_POSTING)
     }
@@ -105,10 +109,10 @@ impl Columns {
 
     // Whether every account's v is within its limit, and every account's position.
     pub fn volumes_hold(&self) -> bool
-        ensures { result ≡ all_below accounts (volume_holds self.now.volume) }
+        ensures { result ≡ volumes_hold accounts self.now.volume }
     {
         for i in 0..ACCOUNTS {
-            if MOST_VOLUME < self.volume[i] {
+            if !volume_holds(self.volume[i]) {
                 return false;
             }
         }
@@ -116,7 +120,7 @@ impl Columns {
     }
 
     pub fn positions_hold(&self) -> bool
-        ensures { result ≡ all_below accounts (Limits·position_holds self.now.position) }
+        ensures { result ≡ positions_hold accounts self.now.position }
     {
         for i in 0..ACCOUNTS {
             if !position_holds(self.position[i]) {

@@ -4,7 +4,7 @@ use Rattle.std.specs.Prelude.{ℕ}
 use lib.{Dec.ltb, IntN.ℤ, IntN.pos, IntN.neg_ℤ}
 use Rattle.calls.specs.declared.Trade.{Trade}
 use Rattle.refusals.specs.Refusals.{Accounts}
-use Rattle.columns.specs.{Columns.raise, Columns.raise_count, Limits.volume_holds, Limits.position_holds}
+use Rattle.columns.specs.{Columns.count_at, Columns.entry, Columns.raise, Columns.raise_count, Limits.volume_holds, Limits.position_holds}
 
 -- 01: "The buyer's position rises by the quantity and its cost by quantity × price; the seller's fall by the same": the seller's entry is read after the buyer's is written
 abbrev pub exchanged : List ℤ → Trade → ℕ → List ℤ
@@ -20,11 +20,13 @@ are_accounts n t = ltb t.buyer n && ltb t.seller n
 
 -- 7: "An account's v would pass 2,000,000". It does not where the v of both accounts stays within its limit.
 abbrev pub volume_stays : List ℕ → Trade → Bool
-volume_stays volume t = volume_holds (counted volume t) t.buyer && volume_holds (counted volume t) t.seller
+volume_stays volume t = let after = counted volume t in volume_holds (count_at after t.buyer) && volume_holds (count_at after t.seller)
 
 -- 8: "A position would pass ±1,200,000"
 abbrev pub position_stays : List ℤ → Trade → Bool
-position_stays position t = let after = exchanged position t t.quantity in position_holds after t.buyer && position_holds after t.seller
+position_stays position t =
+    let after = exchanged position t t.quantity in
+    position_holds (entry after t.buyer) && position_holds (entry after t.seller)
 
 -- what n accounts with these positions and v say of a trade
 abbrev pub accounts_of : ℕ → List ℤ → List ℕ → Trade → Accounts

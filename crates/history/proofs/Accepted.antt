@@ -34,27 +34,27 @@ AllAllowed n s [] = Unit {0}
 AllAllowed n s (c ∷ h) = Allowed n (book_from n s h) c × AllAllowed n s h
 
 -- a book is that of the history with the calls cs after it, which were allowed
-pub record Onward (n s : ℕ) (h : History) (cs : List Call) (b : Book) : Type 0 where
+pub record Reached (n s : ℕ) (h : History) (cs : List Call) (b : Book) : Type 0 where
   pub book_is : b ≡ book_from n s (reverse_aux cs h)
   pub all_allowed : AllAllowed n s (reverse_aux cs h)
 
 -- the book b of the history h, and what the calls and sets os make of both
 abbrev pub After : ℕ → ℕ → Book → History → List Operation → Type 0
-After n s b h os = Onward n s h (accepted_calls n b os) (run n b os)
+After n s b h os = Reached n s h (accepted_calls n b os) (run n b os)
 
 -- ---- one of them
 
 shaped_from : (n s : ℕ) (h : History) → Shaped n (book_from n s h)
 shaped_from n s h = record { opening = table_length n _; position = table_length n _; cost = table_length n _; volume = table_length n _; cash = table_length n _ }
 
-one_call : (n s : ℕ) (h : History) (c : Call) → refusal n (book_from n s h) c ≡ 0 → AllAllowed n s h → Onward n s h (c ∷ []) (effect n (book_from n s h) c)
+one_call : (n s : ℕ) (h : History) (c : Call) → refusal n (book_from n s h) c ≡ 0 → AllAllowed n s h → Reached n s h (c ∷ []) (effect n (book_from n s h) c)
 one_call n s h c r a =
     let p = allowed_call n (book_from n s h) c (passed n (book_from n s h) c r) in
     record { book_is = effect_is n s h c p; all_allowed = (p, a) }
 
 -- the trades of a set, one by one: what one of them leads to is the book of the history with it
 booked : (n s : ℕ) (h : History) (ts : List Trade) → Interim n (book_from n s h) → is_full (book_from n s h).figures.closed ≡ false → (book_from n s h).figures.halted ≡ false → Every (Passes n) ts
-    → AllAllowed n s h → Onward n s h (trade_calls ts) (set_effect n (book_from n s h) ts)
+    → AllAllowed n s h → Reached n s h (trade_calls ts) (set_effect n (book_from n s h) ts)
 unfolding set_effect closings halted
 booked n s h [] i full resumed p a = record { book_is = refl; all_allowed = a }
 booked n s h (t ∷ ts) i full resumed p a =
@@ -65,30 +65,30 @@ booked n s h (t ∷ ts) i full resumed p a =
     let rest = booked n s (call.Trade t ∷ h) ts next full resumed p.1 (allowed, a) in
     record { book_is = ap (λ (x : Book). set_effect n x ts) e ∙ rest.book_is; all_allowed = rest.all_allowed }
 
-one_set : (n s : ℕ) (h : History) (ts : List Trade) → set_refusal n (book_from n s h) ts ≡ 0 → AllAllowed n s h → Onward n s h (trade_calls ts) (set_effect n (book_from n s h) ts)
+one_set : (n s : ℕ) (h : History) (ts : List Trade) → set_refusal n (book_from n s h) ts ≡ 0 → AllAllowed n s h → Reached n s h (trade_calls ts) (set_effect n (book_from n s h) ts)
 one_set n s h ts r a =
     let p = set_passed n (book_from n s h) ts r in
     booked n s h ts (interim (held n (book_from n s h) p.opened.limits)) p.opened.closed p.opened.halted p.each a
 
 -- by whether it is accepted
-either : (n s : ℕ) (h : History) (number : ℕ) (cs : List Call) (b : Book) → (number ≡ 0 → Onward n s h cs b) → AllAllowed n s h
-    → Onward n s h (cond (eqb number 0) cs []) (cond (eqb number 0) b (book_from n s h))
+either : (n s : ℕ) (h : History) (number : ℕ) (cs : List Call) (b : Book) → (number ≡ 0 → Reached n s h cs b) → AllAllowed n s h
+    → Reached n s h (cond (eqb number 0) cs []) (cond (eqb number 0) b (book_from n s h))
 either n s h number cs b accepted a = go (eqb number 0) (λ e. accepted (eqb-true number 0 e))
   where
-    go : (x : Bool) → (x ≡ true → Onward n s h cs b) → Onward n s h (cond x cs []) (cond x b (book_from n s h))
+    go : (x : Bool) → (x ≡ true → Reached n s h cs b) → Reached n s h (cond x cs []) (cond x b (book_from n s h))
     go true f = f refl
     go false f = record { book_is = refl; all_allowed = a }
 
-one_operation : (n s : ℕ) (h : History) (o : Operation) → AllAllowed n s h → let b = book_from n s h in Onward n s h (cond (is_accepted n b o) (stands_for o) []) (answered n b o).book
+one_operation : (n s : ℕ) (h : History) (o : Operation) → AllAllowed n s h → let b = book_from n s h in Reached n s h (cond (is_accepted n b o) (stands_for o) []) (answered n b o).book
 unfolding step trade_set
 one_operation n s h (Operation.Single c) a = either n s h (refusal n (book_from n s h) c) (c ∷ []) (effect n (book_from n s h) c) (λ r. one_call n s h c r a) a
 one_operation n s h (Operation.Set ts) a = either n s h (set_refusal n (book_from n s h) ts) (trade_calls ts) (set_effect n (book_from n s h) ts) (λ r. one_set n s h ts r a) a
 
 -- ---- a list of them
 
-reverse_onto : {A : Type 0} (xs ys r : List A) → reverse_aux (xs ++ ys) r ≡ reverse_aux ys (reverse_aux xs r)
-reverse_onto [] ys r = refl
-reverse_onto (x ∷ xs) ys r = reverse_onto xs ys (x ∷ r)
+reverse_both : {A : Type 0} (xs ys r : List A) → reverse_aux (xs ++ ys) r ≡ reverse_aux ys (reverse_aux xs r)
+reverse_both [] ys r = refl
+reverse_both (x ∷ xs) ys r = reverse_both xs ys (x ∷ r)
 
 pub after_operations : (n s : ℕ) (h : History) (os : List Operation) → AllAllowed n s h → After n s (book_from n s h) h os
 unfolding run accepted_calls
@@ -99,5 +99,5 @@ after_operations n s h (o ∷ os) a =
     let one = one_operation n s h o a in
     let h' = reverse_aux cs h in
     let rest = subst (λ (x : Book). After n s x h' os) (sym one.book_is) (after_operations n s h' os one.all_allowed) in
-    let both = reverse_onto cs (accepted_calls n (answered n b o).book os) h in
+    let both = reverse_both cs (accepted_calls n (answered n b o).book os) h in
     record { book_is = rest.book_is ∙ ap (book_from n s) (sym both); all_allowed = subst (AllAllowed n s) (sym both) rest.all_allowed }

@@ -34,11 +34,11 @@ days_and_today (c ∷ h) = by (days_and_today h) (close_or c)
     by rest (calls.CloseOr.other o) = rw (o History [] (c ∷ today h), o (List History) (h ∷ closings h) (closings h)) (ap {B = History} (λ l. c ∷ l) rest)
 
 -- each closed day's close was accepted
-pub closes_passed : (n s : ℕ) (h : History) → AllAllowed n s h → Every (λ d. AllAllowed n s (call.Close ∷ d)) (closings h)
+pub closes_allowed : (n s : ℕ) (h : History) → AllAllowed n s h → Every (λ d. AllAllowed n s (call.Close ∷ d)) (closings h)
 unfolding closings
-closes_passed n s [] a = tt
-closes_passed n s (c ∷ h) a =
-    let rest = closes_passed n s h a.1 in
+closes_allowed n s [] a = tt
+closes_allowed n s (c ∷ h) a =
+    let rest = closes_allowed n s h a.1 in
     on_close_is (λ ds. Every (λ d. AllAllowed n s (call.Close ∷ d)) ds) (h ∷ closings h) (closings h) c
     (λ e. (rw e at a, rest)) rest
 

@@ -15,7 +15,7 @@ use Rattle.history.specs.Cash.{net, cash_of}
 use Rattle.history.specs.Demand3.{history, total, DemandThree}
 use Rattle.history.proofs.Kept.{book_from, fresh_is}
 use Rattle.history.proofs.Accepted.{After, after_operations}
-use Rattle.history.proofs.Days.{days_and_today, closes_passed, whole}
+use Rattle.history.proofs.Days.{days_and_today, closes_allowed, whole}
 use Rattle.history.proofs.Totals.{every_map, net_cancels, cash_cancels}
 
 -- what an accepted opening hands back is the book of no calls
@@ -37,5 +37,5 @@ demand_three n s os e =
       positions_cancel = ap (λ (b : Book). total b.columns.position) r.book_is ∙ net_cancels n s h r.all_allowed;
       cash_cancels = ap (λ (b : Book). total b.columns.cash) r.book_is ∙ cash_cancels n s h r.all_allowed;
       days_and_today = days_and_today h;
-      closed_days = every_map (whole n s) (closings h) (closes_passed n s h r.all_allowed);
+      closed_days = every_map (whole n s) (closings h) (closes_allowed n s h r.all_allowed);
     }

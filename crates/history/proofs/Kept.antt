@@ -224,13 +224,13 @@ cost_closed n h = replicate_table n (pos 0) ∙ table_ext n (λ j. pos 0) (cost_
 
 pub effect_is : (n s : ℕ) (h : History) (c : Call) → Allowed n (book_from n s h) c → effect n (book_from n s h) c ≡ book_from n s (c ∷ h)
 unfolding effect closings today closed_part trades sum_count sum
-effect_is n s h c passed = by (trade_or c) (close_or c)
+effect_is n s h c allowed = by (trade_or c) (close_or c)
   where
     by : TradeOr c → CloseOr c → effect n (book_from n s h) c ≡ book_from n s (c ∷ h)
-    by (trade t e) k = rw e (cc (figures_after-figures_from s h n (call.Trade t) (rw e at passed), exchanged_table n (net h) t t.quantity, cost_traded n h t, counted_table n (volume_of h) t))
+    by (trade t e) k = rw e (cc (figures_after-figures_from s h n (call.Trade t) (rw e at allowed), exchanged_table n (net h) t t.quantity, cost_traded n h t, counted_table n (volume_of h) t))
     by (calls.TradeOr.other o) (close e) =
         rw e
-        (cc (figures_after-figures_from s h n call.Close (rw e at passed), cost_closed n h, replicate_table {A = ℕ} n 0, table_ext n (cash_after (book_from n s h)) (cash_of s (call.Close ∷ h)) (cash_closed n s h)))
+        (cc (figures_after-figures_from s h n call.Close (rw e at allowed), cost_closed n h, replicate_table {A = ℕ} n 0, table_ext n (cash_after (book_from n s h)) (cash_of s (call.Close ∷ h)) (cash_closed n s h)))
     by (calls.TradeOr.other o) (calls.CloseOr.other k) =
         let b = book_from n s h in
         let f = figures_after (figures_from s h) c in
@@ -239,7 +239,7 @@ effect_is n s h c passed = by (trade_or c) (close_or c)
         let todays : trades (today h) ≡ trades (today (c ∷ h)) = sym (ap trades (k History [] (c ∷ today h)) ∙ o (List Trade) (λ t. t ∷ trades (today h)) (trades (today h))) in
         o Book (traded_book b f) _ ∙ k Book (closed_book n b f) (with_figures b f)
         ∙ (λ i. record {
-          figures = figures_after-figures_from s h n c passed i;
+          figures = figures_after-figures_from s h n c allowed i;
           columns = record {
             opening = table n (net (closed_part (days i)));
             position = table n (λ j. sum (signed j) (all i));

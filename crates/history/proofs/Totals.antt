@@ -12,7 +12,7 @@ use Rattle.history.specs.History.{History, closings, closed_part, trades}
 use Rattle.history.specs.Cash.{last_price, amount_on, of_account, signed, net, yield, paid, cash_of}
 use Rattle.history.proofs.Sums.{over_all, all_add, all_account, scaled_cancels, sum_cancels}
 use Rattle.history.proofs.Accepted.{AllAllowed}
-use Rattle.history.proofs.Days.{closes_passed}
+use Rattle.history.proofs.Days.{closes_allowed}
 
 pub every_map : {A : Type 0} {P Q : A → Type 0} → ((x : A) → P x → Q x) → (xs : List A) → Every P xs → Every Q xs
 every_map f [] e = tt
@@ -46,14 +46,14 @@ yield_cancels n s P h a = sum_cancels n (yield s P) (trades h) (every_map each (
 day_cancels : (n s : ℕ) (d : History) → AllAllowed n s (call.Close ∷ d) → over_all n (λ j. paid s j d) ≡ pos 0
 day_cancels n s d a = scaled_cancels n (λ j. net d j *ℤ amount_on s d) (pos 100) (scaled_cancels n (net d) (amount_on s d) (net_cancels n s d a.1))
 
-closed_passed : (n s : ℕ) (ds : List History) → Every (λ d. AllAllowed n s (call.Close ∷ d)) ds → AllAllowed n s (closed_part ds)
+closed_allowed : (n s : ℕ) (ds : List History) → Every (λ d. AllAllowed n s (call.Close ∷ d)) ds → AllAllowed n s (closed_part ds)
 unfolding closed_part
-closed_passed n s [] e = tt
-closed_passed n s (d ∷ ds) e = e.0.1
+closed_allowed n s [] e = tt
+closed_allowed n s (d ∷ ds) e = e.0.1
 
 pub cash_cancels : (n s : ℕ) (h : History) → AllAllowed n s h → over_all n (cash_of s h) ≡ pos 0
 cash_cancels n s h a =
-    let days = closes_passed n s h a in
+    let days = closes_allowed n s h a in
     all_add n (λ j. sum (yield s (last_price h) j) (trades (closed_part (closings h)))) (λ j. sum (paid s j) (closings h))
-    ∙ ap₂ ◌+ℤ◌ (yield_cancels n s (last_price h) (closed_part (closings h)) (closed_passed n s (closings h) days))
+    ∙ ap₂ ◌+ℤ◌ (yield_cancels n s (last_price h) (closed_part (closings h)) (closed_allowed n s (closings h) days))
     (sum_cancels n (paid s) (closings h) (every_map (day_cancels n s) (closings h) days))

@@ -4,10 +4,9 @@
 -- Assumes nothing.
 use mathlib.Core.Path.{◌≡◌, refl, sym, ◌∙◌, ap}
 use mathlib.Core.Bool.{Bool, true, false, ◌&&◌}
-use mathlib.Core.List.{[], ◌∷◌}
+use mathlib.Core.List.{List, [], ◌∷◌}
 use Prim.Native.Nat.{ℕ, ◌*◌, ◌<◌, ◌≤◌}
-use lib.Dec.{leb}
-use lib.IntN.{pos, nat_abs}
+use lib.IntN.{ℤ, pos, nat_abs}
 use borrow.Author.Tests.{le-leb}
 use Rattle.integers.proofs.Tests.{tests, ◌and◌, each}
 use Rattle.prices.specs.Price.{largest_price}
@@ -15,12 +14,19 @@ use Rattle.calls.specs.declared.Trade.{Trade}
 use Rattle.day.proofs.Held.{HeldFinal}
 use Rattle.figures.proofs.Held.{HeldFigures}
 use Rattle.columns.specs.Columns.{entry, count_at, all_below, sum_below}
-use Rattle.columns.specs.Limits.{most_position, most_posting, most_volume, volume_holds, position_holds}
+use Rattle.columns.specs.Limits.{most_position, most_posting, volume_holds, position_holds, volumes_hold, positions_hold}
 use Rattle.columns.proofs.Accounts.{all_at, all_by}
 use Rattle.counterparties.specs.Counterparties.{exchanged, counted, volume_stays, position_stays}
 use Rattle.counterparties.proofs.Raised.{untouched, of_each}
 use Rattle.ledger.specs.declared.Book.{Book}
 use Rattle.ledger.proofs.Held.{Held}
+
+-- whether account j is within its limit of v, and of its position
+abbrev volume_at : List ℕ → ℕ → Bool
+volume_at volume j = volume_holds (count_at volume j)
+
+abbrev position_at : List ℤ → ℕ → Bool
+position_at position j = position_holds (entry position j)
 
 pub record InterimAccount (b : Book) (j : ℕ) : Type 0 where
   pub opening : nat_abs (entry b.columns.opening j) ≤ most_position
@@ -37,13 +43,13 @@ module _ {n : ℕ} {b : Book} where
   interim h =
       record { figures = h.figures; account = λ j l. let a = h.account j l in record { opening = a.opening; cost = a.cost; cash = a.cash }; final = h.final }
 
-  pub volumes_of : Held n b → all_below n (volume_holds b.columns.volume) ≡ true
-  volumes_of h = all_by n (volume_holds b.columns.volume) (λ j l. le-leb _ _ (h.account j l).volume)
+  pub volumes_of : Held n b → volumes_hold n b.columns.volume ≡ true
+  volumes_of h = all_by n (volume_at b.columns.volume) (λ j l. le-leb _ _ (h.account j l).volume)
 
-  pub positions_of : Held n b → all_below n (position_holds b.columns.position) ≡ true
-  positions_of h = all_by n (position_holds b.columns.position) (λ j l. le-leb _ _ (h.account j l).position)
+  pub positions_of : Held n b → positions_hold n b.columns.position ≡ true
+  positions_of h = all_by n (position_at b.columns.position) (λ j l. le-leb _ _ (h.account j l).position)
 
-  pub held_by : Interim n b → all_below n (volume_holds b.columns.volume) ≡ true → all_below n (position_holds b.columns.position) ≡ true → Held n b
+  pub held_by : Interim n b → volumes_hold n b.columns.volume ≡ true → positions_hold n b.columns.position ≡ true → Held n b
   held_by i v p =
       record {
         figures = i.figures;
@@ -51,8 +57,8 @@ module _ {n : ℕ} {b : Book} where
             let a = i.account j l in
             record {
               opening = a.opening;
-              position = omega (tests, all_at n (position_holds b.columns.position) p j l);
-              volume = omega (tests, all_at n (volume_holds b.columns.volume) v j l);
+              position = omega (tests, all_at n (position_at b.columns.position) p j l);
+              volume = omega (tests, all_at n (volume_at b.columns.volume) v j l);
               cost = a.cost;
               cash = a.cash;
             };
@@ -75,12 +81,12 @@ module _ (n : ℕ) (t : Trade) (range : (t.buyer < n) × (t.seller < n)) (p q : 
       go false true e f = by_both f ∙ sym f
       go false false e f = e ∙ sym f
 
-pub volumes_after : (n : ℕ) (b : Book) (t : Trade) → Held n b → (t.buyer < n) × (t.seller < n) → all_below n (volume_holds (counted b.columns.volume t)) ≡ volume_stays b.columns.volume t
+pub volumes_after : (n : ℕ) (b : Book) (t : Trade) → Held n b → (t.buyer < n) × (t.seller < n) → volumes_hold n (counted b.columns.volume t) ≡ volume_stays b.columns.volume t
 volumes_after n b t h range =
-    of_two n t range (volume_holds b.columns.volume) (volume_holds (counted b.columns.volume t))
-    (λ j x y. ap (λ v. leb v most_volume) (untouched b.columns.volume t.buyer t.seller j _ _ 0 x y)) (volumes_of h)
+    of_two n t range (volume_at b.columns.volume) (volume_at (counted b.columns.volume t))
+    (λ j x y. ap volume_holds (untouched b.columns.volume t.buyer t.seller j _ _ 0 x y)) (volumes_of h)
 
-pub positions_after : (n : ℕ) (b : Book) (t : Trade) → Held n b → (t.buyer < n) × (t.seller < n) → all_below n (position_holds (exchanged b.columns.position t t.quantity)) ≡ position_stays b.columns.position t
+pub positions_after : (n : ℕ) (b : Book) (t : Trade) → Held n b → (t.buyer < n) × (t.seller < n) → positions_hold n (exchanged b.columns.position t t.quantity) ≡ position_stays b.columns.position t
 positions_after n b t h range =
-    of_two n t range (position_holds b.columns.position) (position_holds (exchanged b.columns.position t t.quantity))
-    (λ j x y. ap (λ z. leb (nat_abs z) most_position) (untouched b.columns.position t.buyer t.seller j _ _ (pos 0) x y)) (positions_of h)
+    of_two n t range (position_at b.columns.position) (position_at (exchanged b.columns.position t t.quantity))
+    (λ j x y. ap position_holds (untouched b.columns.position t.buyer t.seller j _ _ (pos 0) x y)) (positions_of h)

@@ -11,7 +11,6 @@ use Rattle.std.proofs.Math.Bool.{or-false}
 use Rattle.figures.specs.declared.Fixing.{Fixing}
 use Rattle.outcomes.specs.Effects.{fixing_of}
 use Rattle.counterparties.proofs.Present.{in_range}
-use Rattle.ledger.specs.Sets.{trade_sentences}
 use Rattle.integers.specs.Lists.{Every}
 use Rattle.calls.specs.declared.Call.TheVariants as call
 use Rattle.calls.specs.declared.Trade.{Trade}
@@ -22,7 +21,7 @@ use Rattle.ledger.specs.declared.Book.{Book}
 use Rattle.ledger.specs.Effects.{effect}
 use Rattle.ledger.specs.Refusals.{refusal, within_limits}
 use Rattle.ledger.specs.Step.{step}
-use Rattle.ledger.specs.Sets.{set_effect, set_refusal, trade_set}
+use Rattle.ledger.specs.Sets.{set_effect, trade_sentences, set_refusal, trade_set}
 use Rattle.ledger.specs.Operations.{Operation, run, accepted_calls, singles, trade_calls}
 use Rattle.ledger.specs.Keeping.{Shaped}
 use Rattle.ledger.specs.SetOrSingly.{AllAccepted, SetOrSingly, SinglyThenSet, SetOfOne}

@@ -21,14 +21,13 @@ use Rattle.refusals.specs.Refusals.{first_met, is_full, number}
 use Rattle.refusals.proofs.Numbers.{not_zero}
 use Rattle.refusals.specs.Sets.{set_sentences}
 use Rattle.refusals.proofs.Passed.{is_none, unmet, never_met, first_of_both, none_of_both}
-use Rattle.columns.specs.Columns.{all_below}
-use Rattle.columns.specs.Limits.{volume_holds, position_holds}
+use Rattle.columns.specs.Limits.{volumes_hold, positions_hold}
 use Rattle.trading.specs.Trading.{own_sentences}
 use Rattle.trading.specs.Inner.{Passes}
 use Rattle.ledger.specs.declared.Book.{Book}
 use Rattle.ledger.specs.Refusals.{within_limits}
 use Rattle.ledger.specs.Inner.{set_answer}
-use Rattle.ledger.specs.Sets.{set_effect, opening_sentences, trade_sentences, final_sentences, set_refusal, trade_set}
+use Rattle.ledger.specs.Sets.{set_effect, sentences_before_trades, trade_sentences, sentences_after_trades, set_refusal, trade_set}
 
 pub no_trade_gives : (number : ℕ) (n : ℕ) (ts : List Trade) → ((t : Trade) → is_none number (own_sentences n t) ≡ true) → is_none number (trade_sentences n ts) ≡ true
 unfolding trade_sentences
@@ -43,20 +42,20 @@ or_else x y = cond (eqb x 0) y x
 
 module _ (n : ℕ) (b : Book) (ts : List Trade) where
   abbrev pub of_set : ℕ
-  of_set = first_met (opening_sentences n b (length ts))
+  of_set = first_met (sentences_before_trades n b (length ts))
 
   abbrev pub of_trades : ℕ
   of_trades = first_met (trade_sentences n ts)
 
   abbrev pub of_accounts : ℕ
-  of_accounts = first_met (final_sentences n (set_effect n b ts).columns)
+  of_accounts = first_met (sentences_after_trades n (set_effect n b ts).columns)
 
   pub by_parts : set_refusal n b ts ≡ or_else of_set (or_else of_trades of_accounts)
   unfolding set_refusal
   by_parts =
-      let rest = trade_sentences n ts ++ final_sentences n (set_effect n b ts).columns in
-      first_of_both (opening_sentences n b (length ts)) rest refl
-      ∙ ap (or_else of_set) (first_of_both (trade_sentences n ts) (final_sentences n (set_effect n b ts).columns) (no_trade_gives 0 n ts (λ t. refl)))
+      let rest = trade_sentences n ts ++ sentences_after_trades n (set_effect n b ts).columns in
+      first_of_both (sentences_before_trades n b (length ts)) rest refl
+      ∙ ap (or_else of_set) (first_of_both (trade_sentences n ts) (sentences_after_trades n (set_effect n b ts).columns) (no_trade_gives 0 n ts (λ t. refl)))
 
   pub refused : (e : Refusal) → number e ≡ set_refusal n b ts → set_answer b (Err e) ≡ trade_set n b ts
   unfolding trade_set
@@ -71,18 +70,16 @@ module _ (n : ℕ) (b : Book) (ts : List Trade) where
     pub limits : within_limits n b ≡ true
     pub closed : is_full b.figures.closed ≡ false
     pub halted : b.figures.halted ≡ false
-    pub some : length ts ≡ 0 → ⊥
     pub few : length ts ≤ most_trades
 
   pub opened : of_set ≡ 0 → Opened
   opened h =
-      let u = unmet (opening_sentences n b (length ts)) refl h in
+      let u = unmet (sentences_before_trades n b (length ts)) refl h in
       let trades = each (not (eqb (length ts) 0)) (leb (length ts) most_trades ∷ []) (not-false (is_set_length (length ts)) (u 3)) in
       record {
         limits = not-false (within_limits n b) (u 0);
         closed = u 1;
         halted = u 2;
-        some = λ e. true≢false (sym (trades 0) ∙ rw (eq-eqb (length ts) 0 e));
         few = omega (tests, trades 1);
       }
 
@@ -105,20 +102,20 @@ all_pass n (t ∷ ts) h =
 pub record SetPassed (n : ℕ) (b : Book) (ts : List Trade) : Type 0 where
   pub opened : Opened n b ts
   pub each : Every (Passes n) ts
-  pub volumes : all_below n (volume_holds (set_effect n b ts).columns.volume) ≡ true
-  pub positions : all_below n (position_holds (set_effect n b ts).columns.position) ≡ true
+  pub volumes : volumes_hold n (set_effect n b ts).columns.volume ≡ true
+  pub positions : positions_hold n (set_effect n b ts).columns.position ≡ true
 
 pub set_passed : (n : ℕ) (b : Book) (ts : List Trade) → set_refusal n b ts ≡ 0 → SetPassed n b ts
 set_passed n b ts h =
     let parts = or_none _ _ (sym (by_parts n b ts) ∙ h) in
     let rest = or_none _ _ parts.1 in
     let c = (set_effect n b ts).columns in
-    let u = unmet (final_sentences n c) refl rest.1 in
+    let u = unmet (sentences_after_trades n c) refl rest.1 in
     record {
       opened = opened n b ts parts.0;
       each = all_pass n ts rest.0;
-      volumes = not-false (all_below n (volume_holds c.volume)) (u 0);
-      positions = not-false (all_below n (position_holds c.position)) (u 1);
+      volumes = not-false (volumes_hold n c.volume) (u 0);
+      positions = not-false (positions_hold n c.position) (u 1);
     }
 
 -- a set on a book within its limits
@@ -126,9 +123,9 @@ pub within_passes_set : (n : ℕ) (b : Book) (ts : List Trade) → within_limits
 unfolding set_refusal
 within_passes_set n b ts w h =
     let c = (set_effect n b ts).columns in
-    let rest = trade_sentences n ts ++ final_sentences n c in
+    let rest = trade_sentences n ts ++ sentences_after_trades n c in
     never_met 2 (set_sentences b.figures.closed b.figures.halted (length ts) ++ rest)
-    (none_of_both 2 (set_sentences b.figures.closed b.figures.halted (length ts)) rest refl (none_of_both 2 (trade_sentences n ts) (final_sentences n c) (no_trade_gives 2 n ts (λ t. refl)) refl))
+    (none_of_both 2 (set_sentences b.figures.closed b.figures.halted (length ts)) rest refl (none_of_both 2 (trade_sentences n ts) (sentences_after_trades n c) (no_trade_gives 2 n ts (λ t. refl)) refl))
     (rw w at h)
 
 -- ---- and back
@@ -139,6 +136,6 @@ none_of_trades n [] p = refl
 none_of_trades n (t ∷ ts) p = first_of_both (own_sentences n t) (trade_sentences n ts) refl ∙ rw (p.0, none_of_trades n ts p.1)
 
 pub by_passed : (n : ℕ) (b : Book) (ts : List Trade) → within_limits n b ≡ true → is_full b.figures.closed ≡ false → b.figures.halted ≡ false → is_set_length (length ts) ≡ true
-    → Every (Passes n) ts → all_below n (volume_holds (set_effect n b ts).columns.volume) ≡ true → all_below n (position_holds (set_effect n b ts).columns.position) ≡ true
+    → Every (Passes n) ts → volumes_hold n (set_effect n b ts).columns.volume ≡ true → positions_hold n (set_effect n b ts).columns.position ≡ true
     → set_refusal n b ts ≡ 0
 by_passed n b ts limits full halted few own volumes positions = by_parts n b ts ∙ rw (volumes, positions, limits, full, halted, few, none_of_trades n ts own)

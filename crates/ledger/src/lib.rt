@@ -149,7 +149,7 @@ impl Book {
         self.step(Call::TimedQuote(quote))
     }
 
-    // A list of trades, accepted whole or not at all. A book that is refused has been copied: the trades change the copy.
+    // A list of trades, accepted whole or not at all. The trades change a copy of the book, so that a refused set hands back the first one.
     pub fn trade_set(self, trades: &[Trade]) -> Answer
         ensures { answer_of result.outcome result.book ≡ Sets·trade_set accounts self trades.now }
     {

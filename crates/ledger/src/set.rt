@@ -3,7 +3,7 @@ ghost use Rattle.std.specs.Prelude.{◌≡◌, length};
 ghost use Rattle.refusals.specs.Refusals.{first_met, number_of};
 ghost use Rattle.columns.specs.Columns.{accounts};
 ghost use Rattle.ledger.specs.Inner.{Room, SetBooked, set_answer};
-ghost use Rattle.ledger.specs.Sets.{opening_sentences, final_sentences, trade_set};
+ghost use Rattle.ledger.specs.Sets.{sentences_before_trades, sentences_after_trades, trade_set};
 
 use crate::Book;
 use calls::Trade;
@@ -23,7 +23,7 @@ fn book_trades(book: &mut Book, trades: &[Trade]) -> Result<(), Refusal>
 
 // The refusal of a set of so many trades, before any of them is looked at.
 fn test_set(book: &Book, trades: usize) -> Result<(), Refusal>
-    ensures { number_of result ≡ first_met (opening_sentences accounts book.now trades) }
+    ensures { number_of result ≡ first_met (sentences_before_trades accounts book.now trades) }
 {
     Refusal::Limits.when(!book.is_within_limits())?;
     refusals::trade_set(book.figures.closed, book.figures.halted, trades)
@@ -31,7 +31,7 @@ fn test_set(book: &Book, trades: usize) -> Result<(), Refusal>
 
 // The refusal of a set whose trades lead to these columns.
 fn test_accounts(columns: &Columns) -> Result<(), Refusal>
-    ensures { number_of result ≡ first_met (final_sentences accounts columns.now) }
+    ensures { number_of result ≡ first_met (sentences_after_trades accounts columns.now) }
 {
     Refusal::Volume.when(!columns.volumes_hold())?;
     Refusal::Position.when(!columns.positions_hold())

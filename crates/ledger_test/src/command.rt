@@ -6,7 +6,7 @@ use funding::market::Market;
 #[derive(Clone, Copy)]
 pub enum Command<'a> {
     Call(Call),
-    // a list of trades, as the case has it: a set of them, and one after another
+    // the trades of a case, in its words: as a set, or one by one
     Set(&'a str),
     Trades(&'a str),
     Opening(u32),

@@ -1,5 +1,5 @@
-// Drives every call and every refusal of the ledger and prints what each answers. The cases are the lines of the file stdin,
-// which says how they are written; the stored printout is worked out by hand from documents 01 and 02.
+// Drives every call, sets of trades and every refusal of the ledger, and prints what each answers. The cases are the lines of
+// the file stdin, which says how they are written; the stored printout is worked out by hand from documents 01 and 02.
 #![tactic(auto)]
 
 mod book;

@@ -1,4 +1,4 @@
--- The number of each refusal, and of a call 3 to 9, 11 and 12 in checking order: a number comes if its sentence is met, and only then.
+-- The number of each refusal; refusals 3 to 9, 11 and 12 of a call, in checking order: a number comes if its sentence is met, and only then.
 use mathlib.Core.{Path.◌≡◌, Bool.Bool, Bool.false, Bool.not, Bool.cond, Bool.◌&&◌, Bool.◌||◌, List.List, List.[], List.◌∷◌}
 use Rattle.std.specs.Prelude.{ℕ, leb, ltb, Result, Ok, Err}
 use Rattle.prices.specs.Price.{is_present, none_or_price, none_or_ticked}

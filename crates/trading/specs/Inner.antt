@@ -12,7 +12,7 @@ use Rattle.columns.specs.declared.Columns.{Columns}
 use Rattle.counterparties.specs.Inner.{most_entry, Exchangeable, Countable}
 use Rattle.trading.specs.Trading.{trade_refusal, own_sentences, traded_columns}
 
--- the entries of both accounts are within bounds, that of positions by the one given, being 0 for one that isn't there, and n and the gross have room for the trade
+-- the entries of both accounts are within bounds, those of positions within the bound given; an account that isn't there has 0. n and the gross have room for the trade
 pub record Tradable (f : Figures) (c : Columns) (t : Trade) (bound : ℕ) : Type 0 where
   pub positions : Exchangeable c.position t bound
   pub costs : Exchangeable c.cost t most_entry
@@ -25,7 +25,7 @@ abbrev pub Passes : ℕ → Trade → Type 0
 Passes n t = first_met (own_sentences n t) ≡ 0
 
 -- figures and columns after an accepted trade
-pub record TradeBooked (f : Figures) (c : Columns) (t : Trade) (f' : Figures) (c' : Columns) : Type 0 where
+pub record Traded (f : Figures) (c : Columns) (t : Trade) (f' : Figures) (c' : Columns) : Type 0 where
   pub figures : f' ≡ figures_after f (call.Trade t)
   pub columns : c' ≡ traded_columns c t
 

@@ -8,7 +8,7 @@ ghost use Rattle.columns.specs.Columns.{accounts};
 ghost use Rattle.columns.specs.Limits.{most_position};
 ghost use Rattle.counterparties.specs.Inner.{most_entry, Exchangeable, Countable};
 ghost use Rattle.trading.specs.Trading.{own_sentences, trade_refusal};
-ghost use Rattle.trading.specs.Inner.{Passes, SetTradeAnswered, Tradable, TradeAnswered, TradeBooked};
+ghost use Rattle.trading.specs.Inner.{Passes, SetTradeAnswered, Tradable, TradeAnswered, Traded};
 
 use calls::Trade;
 use columns::Columns;
@@ -36,10 +36,10 @@ fn test_by_itself(t: Trade) -> Result<(), Refusal>
     Refusal::Account.when(!are_accounts(t))
 }
 
-// Figures and columns with an accepted trade.
-fn book(figures: &mut Figures, columns: &mut Columns, t: Trade)
+// An accepted trade.
+fn traded(figures: &mut Figures, columns: &mut Columns, t: Trade)
     requires { Tradable figures.old columns.old t most_entry × Passes accounts t }
-    ensures { TradeBooked figures.old columns.old t figures.new columns.new }
+    ensures { Traded figures.old columns.old t figures.new columns.new }
 {
     let quantity = u64::from(t.quantity);
     exchange(&mut columns.position, t, quantity);
@@ -54,7 +54,7 @@ pub fn trade(figures: &mut Figures, columns: &mut Columns, t: Trade) -> Outcome
     ensures { TradeAnswered accounts figures.old columns.old t result figures.new columns.new }
 {
     test(figures, columns, t)?;
-    book(figures, columns, t);
+    traded(figures, columns, t);
     Ok(None)
 }
 
@@ -64,6 +64,6 @@ pub fn trade_in_set(figures: &mut Figures, columns: &mut Columns, t: Trade) -> R
     ensures { SetTradeAnswered accounts figures.old columns.old t result figures.new columns.new }
 {
     test_by_itself(t)?;
-    book(figures, columns, t);
+    traded(figures, columns, t);
     Ok(())
 }

@@ -1,8 +1,7 @@
 use mathlib.Core.Path.{◌≡◌}
 use mathlib.Core.Bool.{true}
-use Rattle.columns.specs.Columns.{all_below}
-use Rattle.columns.specs.Limits.{volume_holds}
+use Rattle.columns.specs.Limits.{volumes_hold}
 use Rattle.columns.proofs.Columns.volumes_hold.Given as goal
 
 abbrev pub invariant-loop-i : goal.invariant-loop-i
-invariant-loop-i l = all_below l.i (volume_holds l.self.volume) ≡ true
+invariant-loop-i l = volumes_hold l.i l.self.volume ≡ true

@@ -7,7 +7,7 @@ use Rattle.refusals.proofs.Numbers.{not_zero}
 use Rattle.columns.specs.Columns.{accounts}
 use Rattle.ledger.specs.declared.Book.{Book}
 use Rattle.ledger.specs.Inner.{WithinLimits}
-use Rattle.ledger.specs.Sets.{final_sentences}
+use Rattle.ledger.specs.Sets.{sentences_after_trades}
 use Rattle.ledger.proofs.Booking.{has_room}
 use Rattle.ledger.proofs.SetRefusal.{by_parts, refused, accepted, opened}
 use Rattle.ledger.proofs.set.book_with.Goals as goal
@@ -44,7 +44,7 @@ returns-in_err-test_accounts c =
     let set = sym c.test_set.ensures ∙ ap number_of c.in_ok-test_set.was in
     let none = ap number_of c.in_ok-book_trades.was in
     let trades = sym c.book_trades.ensures.code ∙ none in
-    let number = sym (ap number_of c.in_err-test_accounts.was) ∙ c.test_accounts.ensures ∙ ap (λ (b : Book). first_met (final_sentences accounts b.columns)) (c.book_trades.ensures.book none) in
+    let number = sym (ap number_of c.in_err-test_accounts.was) ∙ c.test_accounts.ensures ∙ ap (λ (b : Book). first_met (sentences_after_trades accounts b.columns)) (c.book_trades.ensures.book none) in
     rw same (refused accounts a.book a.trades.now e (sym (by_parts accounts a.book a.trades.now ∙ rw (set, trades, ← number))))
 
 pub returns : goal.returns
@@ -54,5 +54,5 @@ returns c =
     let none = ap number_of c.in_ok-book_trades.was in
     let trades = sym c.book_trades.ensures.code ∙ none in
     let book = c.book_trades.ensures.book none in
-    let number = sym (ap (λ (b : Book). first_met (final_sentences accounts b.columns)) book) ∙ sym c.test_accounts.ensures ∙ ap number_of c.in_ok-test_accounts.was in
+    let number = sym (ap (λ (b : Book). first_met (sentences_after_trades accounts b.columns)) book) ∙ sym c.test_accounts.ensures ∙ ap number_of c.in_ok-test_accounts.was in
     accepted accounts a.book a.trades.now c.book_trades.new.book (by_parts accounts a.book a.trades.now ∙ rw (set, trades, number)) book
