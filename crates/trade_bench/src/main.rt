@@ -1,13 +1,18 @@
-// trade-bench: a million trades on a book that each call takes and hands back, for benchmarks/run to time. It prints how many
-// were accepted: all of them.
+// trade-bench: a million trades on a book that each call takes and hands back, for benchmarks/run to time: one by one, or, with the
+// argument `sets`, as sets of 500. It prints how many were accepted: all of them.
 #![tactic(auto)]
 
-use calls::{Kind, Trade};
+use calls::{Kind, MOST_TRADES, Trade};
 use figures::product::Product;
 use ledger::Book;
-use std::io;
+use std::io::ErrorKind;
+use std::{array, env, io};
 
 const TRADES: u64 = 1_000_000;
+
+const SET: u64 = MOST_TRADES as u64;
+
+const SETS: u64 = TRADES / SET;
 
 // One contract goes from account 0 to account 1 and back, so that no limit is met.
 fn trade_at(place: u64) -> Trade {
@@ -32,8 +37,24 @@ fn play(mut book: Book) -> u64 {
     accepted
 }
 
+// The same trades in sets of as many as a set may have. That number is even, so that the trades of each set are those of the first.
+fn play_sets(mut book: Book) -> u64 {
+    let trades: [Trade; MOST_TRADES] = array::from_fn(|place| trade_at(place as u64));
+    let mut accepted = 0;
+    for _ in 0..SETS {
+        let answer = book.trade_set(&trades);
+        accepted += u64::from(answer.outcome.is_ok());
+        book = answer.book;
+    }
+    accepted * SET
+}
+
 fn main(rt: HostRuntime) -> io::Result<()> {
     let opened = Book::opening(Product::hundredth().size);
-    let accepted = play(opened.book);
+    let accepted = match env::args(&rt)?.nth(1) {
+        None => play(opened.book),
+        Some(word) if word.as_str() == "sets" => play_sets(opened.book),
+        Some(_) => return Err(ErrorKind::InvalidInput.into()),
+    };
     println!(rt; "{accepted}")
 }
