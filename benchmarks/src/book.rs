@@ -1,5 +1,9 @@
 //! A book that its calls change in place.
 
+mod sets;
+
+pub use sets::MOST_TRADES;
+
 use crate::market::{Market, Midpoints, MINUTE};
 use crate::price::is_price;
 use crate::settlement::{amount, average, basis, rate};
@@ -17,7 +21,7 @@ const MOST_POSITION: i64 = 1_200_000;
 /// Nothing, or the number of the refusal.
 pub type Answer = Result<(), u8>;
 
-#[derive(Default)]
+#[derive(Clone, Copy, Default)]
 struct Day {
     /// The minutes of its length that are still to end.
     left: u32,
@@ -58,6 +62,13 @@ fn refused_if(met: bool, number: u8) -> Answer {
     } else {
         Ok(())
     }
+}
+
+/// The tests of a trade that no book is looked at for.
+#[inline(always)]
+fn test_by_itself(trade: Trade) -> Answer {
+    refused_if(!trade.is_in_field(), FIELD)?;
+    refused_if(!trade.has_accounts(), ACCOUNT)
 }
 
 impl Day {
@@ -152,9 +163,8 @@ impl Book {
     pub fn trade(&mut self, trade: Trade) -> Answer {
         refused_if(self.is_full(), DAY)?;
         refused_if(self.halted, HALT)?;
-        refused_if(!trade.is_in_field(), FIELD)?;
-        refused_if(!trade.has_accounts(), ACCOUNT)?;
-        let (buyer, seller) = (usize::from(trade.buyer), usize::from(trade.seller));
+        test_by_itself(trade)?;
+        let (buyer, seller) = trade.accounts();
         let quantity = i64::from(trade.quantity);
         let (counted, moved) = match buyer == seller {
             true => (2 * trade.quantity, 0),
@@ -164,6 +174,15 @@ impl Book {
         refused_if(most_before + counted > MOST_VOLUME, VOLUME)?;
         let (bought, sold) = (self.position[buyer] + moved, self.position[seller] - moved);
         refused_if(bought > MOST_POSITION || sold < -MOST_POSITION, POSITION)?;
+        self.book(trade);
+        Ok(())
+    }
+
+    /// What an accepted trade leaves.
+    #[inline(always)]
+    fn book(&mut self, trade: Trade) {
+        let (buyer, seller) = trade.accounts();
+        let quantity = i64::from(trade.quantity);
         let paid = quantity * i64::from(trade.price);
         self.position[buyer] += quantity;
         self.position[seller] -= quantity;
@@ -179,7 +198,6 @@ impl Book {
                 self.day.gross += paid as u64;
             }
         }
-        Ok(())
     }
 
     pub fn halt(&mut self) -> Answer {

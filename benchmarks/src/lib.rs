@@ -8,6 +8,7 @@ pub mod inputs;
 mod market;
 mod play;
 mod price;
+pub mod sets;
 mod settlement;
 mod trade;
 

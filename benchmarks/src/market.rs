@@ -46,7 +46,7 @@ impl Market {
     }
 }
 
-#[derive(Default)]
+#[derive(Clone, Copy, Default)]
 pub struct Midpoints {
     /// The milliseconds with a two-sided market.
     total: u32,

@@ -34,7 +34,7 @@ pub fn answers(size: u8, file: &[u8]) -> Vec<Option<Answer>> {
 /// Trades with two-byte accounts have a loop of their own: read by `call`, as those with one-byte
 /// accounts are, a record of a day with them took 1.4 times as long.
 #[inline(always)]
-fn play(book: &mut Book, file: &[u8], mut answered: impl FnMut(Option<Answer>)) {
+pub fn play(book: &mut Book, file: &[u8], mut answered: impl FnMut(Option<Answer>)) {
     let mut rest = file;
     while !rest.is_empty() {
         while let [tag::TWO_BYTE_TRADE, 0, length::TWO_BYTE_TRADE, i, j, k, l, kind, a, b, c, d, e, f, g, h, ref next @ ..] =
@@ -57,7 +57,7 @@ fn play(book: &mut Book, file: &[u8], mut answered: impl FnMut(Option<Answer>)) 
     }
 }
 
-fn trade(buyer: u16, seller: u16, kind: u8, [a, b, c, d, e, f, g, h]: [u8; 8]) -> Trade {
+pub fn trade(buyer: u16, seller: u16, kind: u8, [a, b, c, d, e, f, g, h]: [u8; 8]) -> Trade {
     Trade {
         buyer,
         seller,

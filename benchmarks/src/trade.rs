@@ -33,4 +33,10 @@ impl Trade {
     pub fn has_accounts(self) -> bool {
         usize::from(self.buyer) < ACCOUNTS && usize::from(self.seller) < ACCOUNTS
     }
+
+    /// Buyer and seller as places of a column.
+    #[inline(always)]
+    pub fn accounts(self) -> (usize, usize) {
+        (self.buyer.into(), self.seller.into())
+    }
 }

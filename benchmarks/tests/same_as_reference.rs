@@ -1,39 +1,30 @@
 //! The ledger that is timed gives the reference's answers, record by record.
 
+mod common;
+
 use benchmarks::{answers, run, ACCOUNTS};
+use common::{answers_of, UNTOUCHED};
 use dayformat::Writer;
 use differential::profiles;
 use differential::random::Random;
-use reference::play::{play, Answer};
+use reference::play::play;
 use reference::rules::Rules;
-use reference::{c_run, size_and_records};
+use reference::{c_run_of, size_and_records};
 use std::collections::BTreeSet;
-
-const UNTOUCHED: i64 = i64::MIN;
-
-fn reference_answers(size: u8, file: &[u8]) -> Vec<Option<Result<(), u8>>> {
-    let played = play(size, file, Rules::RIGHT);
-    let answers = played.map_or(Vec::new(), |played| played.answers);
-    let as_timed = |answer: Answer| match answer {
-        Answer::Accepted(_) | Answer::AcceptedSet => Some(Ok(())),
-        Answer::Refused(number) => Some(Err(number)),
-        Answer::Unknown => None,
-    };
-    answers.into_iter().map(as_timed).collect()
-}
 
 fn expect_same(name: &str, input: &[u8]) {
     let (size, file) = size_and_records(input);
-    let mut lists = ([UNTOUCHED; ACCOUNTS], [UNTOUCHED; ACCOUNTS]);
+    let mut lists = (UNTOUCHED, UNTOUCHED);
     let accepted = run(size, file, &mut lists.0, &mut lists.1);
-    let (expected, expected_lists) = c_run(size, file);
+    let played = play(size, file, Rules::RIGHT);
+    let (expected, expected_lists) = c_run_of(played.as_ref());
     assert_eq!(accepted, expected, "{name}: accepted records");
-    let untouched = ([UNTOUCHED; ACCOUNTS], [UNTOUCHED; ACCOUNTS]);
+    let untouched = (UNTOUCHED, UNTOUCHED);
     assert!(
         lists == expected_lists.unwrap_or(untouched),
         "{name}: lists"
     );
-    let expected = reference_answers(size, file);
+    let expected = answers_of(played.as_ref());
     assert!(answers(size, file) == expected, "{name}: answers");
 }
 

@@ -88,8 +88,8 @@ pub fn best_rounds<const FILES: usize>(run: Run, inputs: [&Input; FILES]) -> [f6
     best
 }
 
-/// What a process of one side printed: the best rounds of it, in nanoseconds a run.
-fn process<const FILES: usize>(side: &str, row: &[String]) -> [f64; FILES] {
+/// What a process of one side printed: the best rounds of it, in nanoseconds.
+pub fn process<const FILES: usize>(side: &str, row: &[String]) -> [f64; FILES] {
     let program = std::env::current_exe().expect("this program has a path");
     let output = Command::new(program).arg(side).args(row).output();
     let output = output.expect("this program runs");

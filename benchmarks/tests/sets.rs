@@ -1,0 +1,118 @@
+//! The ledger that is timed takes sets as the reference does, and the trades that are timed are accepted.
+
+mod common;
+
+use benchmarks::sets;
+use common::{answers_of, UNTOUCHED};
+use dayformat::Writer;
+use differential::profiles;
+use reference::file::{records, Record};
+use reference::play::play;
+use reference::rules::Rules;
+use reference::{c_run_of, size_and_records};
+use std::collections::BTreeSet;
+
+/// The answers to an input, the same as the reference's, as the lists are.
+fn same_answers(name: &str, input: &[u8]) -> Vec<Option<Result<(), u8>>> {
+    let (size, file) = size_and_records(input);
+    let mut lists = (UNTOUCHED, UNTOUCHED);
+    let answers = sets::answers_with_sets(size, file, &mut lists.0, &mut lists.1);
+    let played = play(size, file, Rules::WITH_SETS);
+    let (_, expected_lists) = c_run_of(played.as_ref());
+    let expected_lists = expected_lists.unwrap_or((UNTOUCHED, UNTOUCHED));
+    assert!(lists == expected_lists, "{name}: lists");
+    assert!(answers == answers_of(played.as_ref()), "{name}: answers");
+    answers
+}
+
+/// The numbers of the refusals that the sets of an input meet.
+fn refusals_of_sets(name: &str, input: &[u8]) -> BTreeSet<u8> {
+    let answers = same_answers(name, input).into_iter();
+    let (_, file) = size_and_records(input);
+    let records = records(file, Rules::WITH_SETS.files);
+    answers
+        .zip(records)
+        .filter(|(_, record)| matches!(record, Record::Set(_)))
+        .filter_map(|(answer, _)| answer?.err())
+        .collect()
+}
+
+#[test]
+fn generated_files() {
+    let mut met = BTreeSet::new();
+    for seed in 0..600 {
+        let input = profiles::set_input(seed);
+        met.extend(refusals_of_sets(&format!("seed {seed}"), &input));
+    }
+    assert_eq!(met, BTreeSet::from([4, 5, 7, 8, 12, 13]));
+}
+
+type Trade = ((u16, u16), u8, u32, u32);
+
+const GOOD: Trade = ((3, 7), 0, 12, 200_200);
+
+fn add_set(file: &mut Writer, trades: &[Trade]) {
+    let mut list = Writer::new();
+    for ((buyer, seller), kind, quantity, price) in trades {
+        list.two_byte_trade((*buyer, *seller), *kind, *quantity, *price);
+    }
+    file.set(&list);
+}
+
+/// The refusals of what `add_refused_sets` adds.
+const REFUSED: [Result<(), u8>; 6] = [Err(13), Err(13), Err(5), Err(12), Err(7), Err(8)];
+
+fn add_refused_sets(file: &mut Writer) {
+    add_set(file, &[]);
+    add_set(file, &[GOOD; 501]);
+    add_set(file, &[GOOD, ((3, 7), 0, 0, 200_200)]);
+    add_set(file, &[GOOD, ((3, 1_024), 0, 12, 200_200), GOOD]);
+    add_set(file, &[((3, 3), 0, 100_000, 200_200); 11]);
+    add_set(file, &[((3, 7), 0, 100_000, 200_200); 13]);
+}
+
+/// They don't begin a day, none of their trades in its last minute gives a price, and none is paid.
+#[test]
+fn refused_sets_leave_the_book_as_it_was() {
+    let mut file = Writer::new();
+    add_refused_sets(&mut file);
+    file.length_of_day(1_140).minute_ends(1_139, 0);
+    add_refused_sets(&mut file);
+    file.minute_ends(1, 0).fix(0).fix(200_200);
+    add_refused_sets(&mut file);
+    add_set(&mut file, &[GOOD, GOOD]);
+    file.close();
+    let input = [&[10], &file.bytes[..]].concat();
+    let expected = [
+        &REFUSED[..],
+        &[Ok(()); 1 + 1_139],
+        &REFUSED,
+        &[Ok(()), Err(9), Ok(())],
+        &REFUSED,
+        &[Ok(()), Ok(())],
+    ];
+    let expected = expected.concat().into_iter().map(Some);
+    assert!(same_answers("refused sets", &input)
+        .into_iter()
+        .eq(expected));
+}
+
+/// 3 comes before all others.
+#[test]
+fn sets_after_2600_days() {
+    let mut file = Writer::new();
+    file.halt();
+    for _ in 0..2_600 {
+        file.minute_ends(1_320, 0).fix(200_200).close();
+    }
+    add_refused_sets(&mut file);
+    add_set(&mut file, &[GOOD]);
+    let input = [&[10], &file.bytes[..]].concat();
+    let answers = same_answers("2,600 days", &input);
+    assert_eq!(answers[answers.len() - 7..], [Some(Err(3)); 7]);
+}
+
+#[test]
+fn the_timed_trades_are_accepted() {
+    assert_eq!(sets::run(), sets::TRADES);
+}
