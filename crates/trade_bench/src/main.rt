@@ -26,10 +26,12 @@ fn trade_at(place: u64) -> Trade {
     }
 }
 
-// How many of the trades a fresh book accepts. This function and the next are compiled apart, so that neither takes the other's stack.
-#[inline(never)]
-fn play() -> u64 {
-    let mut book = Book::opening(Product::hundredth().size).book;
+fn fresh() -> Book {
+    Book::opening(Product::hundredth().size).book
+}
+
+// How many of the trades a book accepts.
+fn play(mut book: Book) -> u64 {
     let mut accepted = 0;
     for place in 0..TRADES {
         let answer = book.trade(trade_at(place));
@@ -40,10 +42,8 @@ fn play() -> u64 {
 }
 
 // The same trades in sets of as many as a set may have. That number is even, so that the trades of each set are those of the first.
-#[inline(never)]
-fn play_sets() -> u64 {
+fn play_sets(mut book: Book) -> u64 {
     let trades: [Trade; MOST_TRADES] = array::from_fn(|place| trade_at(place as u64));
-    let mut book = Book::opening(Product::hundredth().size).book;
     let mut accepted = 0;
     for _ in 0..SETS {
         let answer = book.trade_set(&trades);
@@ -55,8 +55,8 @@ fn play_sets() -> u64 {
 
 fn main(rt: HostRuntime) -> io::Result<()> {
     let accepted = match env::args(&rt)?.nth(1) {
-        None => play(),
-        Some(word) if word.as_str() == "sets" => play_sets(),
+        None => play(fresh()),
+        Some(word) if word.as_str() == "sets" => play_sets(fresh()),
         Some(_) => return Err(ErrorKind::InvalidInput.into()),
     };
     println!(rt; "{accepted}")
