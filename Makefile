@@ -4,7 +4,8 @@
 # make uninstall
 # make compare DAY=examples/quiet.day.txt     terminal build and server build side by side
 # make fuzz N=100000 SEED=1                   that many generated files against the reference
-# make speed    the run for C and a close against a Rust version of it, and a trade by value against a copy of the book
+# make speed    the run for C and a close against a Rust version of it, and a trade by value against a copy of the book and against a
+#               trade of a set
 # make stack    how much of an ordinary stack the library's calls and each program take
 
 PREFIX ?= /usr/local
