@@ -1,6 +1,7 @@
 -- The calls that the bodies of records bring: document 01's format, and document 02's records.
 use Rattle.std.specs.Prelude.{ℕ, ◌+◌, ◌*◌, List, get_or}
 use Rattle.calls.specs.declared.Call.TheVariants as call
+use Rattle.expiry.specs.declared.Month.{Month}
 use Rattle.funding.specs.declared.market.Market.{Market}
 use Rattle.calls.specs.declared.{Trade.Trade, TimedQuote.TimedQuote, Call.Call}
 use Rattle.calls.specs.Trade.{kind_of}
@@ -28,7 +29,7 @@ trade_between file buyer seller at = record {
   price = four_bytes file (at + 5);
 }
 
--- the trades, the quotes and the call whose body starts at a place
+-- the trades, the quotes, the month and the call whose body starts at a place
 abbrev pub trade_at : List ℕ → ℕ → Trade
 trade_at file body = trade_between file (byte_at file body) (byte_at file (body + 1)) (body + 2)
 
@@ -41,6 +42,10 @@ quote_at file body = record { bid = four_bytes file body; offer = four_bytes fil
 abbrev pub timed_quote_at : List ℕ → ℕ → TimedQuote
 timed_quote_at file body = record { time = two_bytes file body; market = quote_at file (body + 2) }
 
+-- 02-7: "year (two bytes) and month (one)"
+abbrev pub month_at : List ℕ → ℕ → Month
+month_at file body = record { year = two_bytes file body; month = byte_at file (body + 2) }
+
 abbrev pub call_of : List ℕ → Tag → ℕ → Call
 call_of file tag.Trade body = call.Trade (trade_at file body)
 call_of file tag.Quote body = call.Quote (quote_at file body)
@@ -52,3 +57,5 @@ call_of file tag.Close body = call.Close
 call_of file tag.DayLength body = call.DayLength (two_bytes file body)
 call_of file tag.TimedQuote body = call.TimedQuote (timed_quote_at file body)
 call_of file tag.TwoByteTrade body = call.Trade (two_byte_trade_at file body)
+call_of file tag.FinalDate body = call.FinalDate (month_at file body)
+call_of file tag.FinalFix body = call.FinalFix (four_bytes file body)

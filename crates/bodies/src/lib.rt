@@ -3,9 +3,10 @@
 
 ghost use Rattle.std.specs.Prelude.{◌≡◌, ◌+◌, ◌≤◌, length};
 ghost use Rattle.tags.specs.Tags.{body_length};
-ghost use Rattle.bodies.specs.Body.{two_bytes, four_bytes, trade_between, trade_at, two_byte_trade_at, quote_at, timed_quote_at, call_of};
+ghost use Rattle.bodies.specs.Body.{two_bytes, four_bytes, trade_between, trade_at, two_byte_trade_at, quote_at, timed_quote_at, month_at, call_of};
 
 use calls::{Call, Kind, TimedQuote, Trade};
+use expiry::Month;
 use funding::market::Market;
 use tags::Tag;
 
@@ -81,6 +82,16 @@ pub fn timed_quote_at(file: &[u8], body: usize) -> TimedQuote
     }
 }
 
+fn month_at(file: &[u8], body: usize) -> Month
+    requires { body + 3 ≤ length file.now }
+    ensures { result ≡ month_at file.now body }
+{
+    Month {
+        year: two_bytes(file, body),
+        month: file[body + 2],
+    }
+}
+
 // The call whose body, of its tag's length, starts at `body`.
 pub fn call_of(file: &[u8], tag: Tag, body: usize) -> Call
     requires { body + body_length tag ≤ length file.now }
@@ -97,5 +108,7 @@ pub fn call_of(file: &[u8], tag: Tag, body: usize) -> Call
         Tag::DayLength => Call::DayLength(u32::from(two_bytes(file, body))),
         Tag::TimedQuote => Call::TimedQuote(timed_quote_at(file, body)),
         Tag::TwoByteTrade => Call::Trade(two_byte_trade_at(file, body)),
+        Tag::FinalDate => Call::FinalDate(month_at(file, body)),
+        Tag::FinalFix => Call::FinalFix(four_bytes(file, body)),
     }
 }

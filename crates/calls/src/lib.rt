@@ -3,8 +3,9 @@
 
 ghost use Rattle.std.specs.Prelude.{◌≡◌};
 ghost use Rattle.calls.specs.Trade.{kind_of, trade_outside, is_set_length};
-ghost use Rattle.calls.specs.Length.{is_length};
+ghost use Rattle.calls.specs.Length.{is_ordinary_length, is_length};
 
+use expiry::Month;
 use funding::MOST_MINUTES;
 use funding::market::Market;
 
@@ -13,10 +14,12 @@ pub const MOST_QUANTITY: u32 = 100_000;
 pub const LEAST_BLOCK: u32 = 250;
 // The most trades that a set may have.
 pub const MOST_TRADES: usize = 500;
-// The lengths of a day, in minutes: an ordinary one, and one that ends early before a holiday.
+// The lengths of a day, in minutes: an ordinary one, one that ends early before a holiday, and a contract's final date.
 pub const FULL_DAY: u32 = MOST_MINUTES;
 
 pub const SHORT_DAY: u32 = 1_140;
+
+pub const FINAL_DAY: u32 = 1_020;
 // The milliseconds of a minute, and the latest time that a quote can give.
 pub const MINUTE_LENGTH: u32 = 60_000;
 
@@ -78,6 +81,10 @@ pub enum Call {
     // the minutes of the day
     DayLength(u32),
     TimedQuote(TimedQuote),
+    // the contract's month, whose end the date is
+    FinalDate(Month),
+    // the hourly index value, by which a final date settles
+    FinalFix(u32),
 }
 
 // Whether a set may have so many trades.
@@ -87,10 +94,18 @@ pub fn is_set_length(trades: usize) -> bool
     (trades != 0) & (trades <= MOST_TRADES)
 }
 
+// Whether a length of day may set so many minutes.
+pub fn is_ordinary_length(minutes: u32) -> bool
+    ensures { result ≡ is_ordinary_length minutes }
+{
+    (minutes == FULL_DAY) | (minutes == SHORT_DAY)
+}
+
+// Whether a day may have so many.
 pub fn is_length(minutes: u32) -> bool
     ensures { result ≡ is_length minutes }
 {
-    (minutes == FULL_DAY) | (minutes == SHORT_DAY)
+    is_ordinary_length(minutes) | (minutes == FINAL_DAY)
 }
 
 impl Trade {

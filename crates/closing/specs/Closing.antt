@@ -1,6 +1,7 @@
 -- What a close does to the account columns: document 01, "A trade date, call by call".
-use Rattle.std.specs.Prelude.{List, ℕ, ◌*ℤ◌, ◌+ℤ◌, ◌-ℤ◌, pos, ℤ}
+use Rattle.std.specs.Prelude.{List, cond, ℕ, ◌*ℤ◌, ◌+ℤ◌, ◌-ℤ◌, pos, ℤ}
 use lib.ListN.{replicate}
+use Rattle.day.specs.Day.{is_final_date}
 use Rattle.figures.specs.declared.Figures.{Figures}
 use Rattle.columns.specs.{declared.Columns.Columns, Columns.entry, Columns.table}
 
@@ -23,11 +24,15 @@ posted_columns n f c = record {
   cash = table n (posted f c.opening c.position c.cost c.cash);
 }
 
+-- the positions that a close leaves: 02-7, "The final close posts as usual on the positions before it, then clears every present and opening position"
+abbrev pub positions_left : ℕ → Figures → List ℤ → List ℤ
+positions_left n f position = cond (is_final_date f.day) (replicate n (pos 0)) position
+
 -- 01: "present positions become opening ones, … and the day's figures (… v, cost …) … start empty"
 abbrev pub closed_columns : ℕ → Figures → Columns → Columns
 closed_columns n f c = record {
-  opening = c.position;
-  position = c.position;
+  opening = positions_left n f c.position;
+  position = positions_left n f c.position;
   cost = replicate n (pos 0);
   volume = replicate n 0;
   cash = (posted_columns n f c).cash;

@@ -1,11 +1,11 @@
 -- What the functions of this crate require, which a book within its limits has, and what a close comes to. A reader of the promises can skip this file.
 use mathlib.Core.{Bool.true, Bool.cond, Path.◌≡◌}
-use Rattle.std.specs.Prelude.{ℕ, ◌*◌, ◌<◌, ◌≤◌, Option, Result}
+use Rattle.std.specs.Prelude.{ℕ, ◌*◌, ◌<◌, ◌≤◌, Result}
 use lib.{Dec.eqb, ListN.length, IntN.nat_abs}
 use Rattle.prices.specs.Price.{largest_price}
 use Rattle.calls.specs.declared.Call.TheVariants as call
 use Rattle.refusals.specs.{declared.Refusal.Refusal, Refusals.most_days, Refusals.number_of}
-use Rattle.figures.specs.{declared.Figures.Figures, Figures.figures_hold, declared.Fixing.Fixing, Figures.outcome_of}
+use Rattle.figures.specs.{declared.Figures.Figures, Figures.figures_hold, declared.Found.Found, Figures.outcome_of}
 use Rattle.outcomes.specs.Outcome.{outcome}
 use Rattle.columns.specs.{declared.Account.Account, declared.Columns.Columns, Columns.accounts, Columns.account_at, Columns.entry, Limits.most_position, Limits.most_posting, Limits.most_volume}
 use Rattle.closing.specs.Closing.{closed_columns}
@@ -25,6 +25,6 @@ pub record Closable (f : Figures) (c : Columns) : Type 0 where
   pub cash_size : (j : ℕ) → j < accounts → nat_abs (entry c.cash j) ≤ most_days * most_posting
 
 -- what a close comes to, and the columns after it, which a refused one leaves
-pub record CloseAnswered (n : ℕ) (f : Figures) (c : Columns) (r : Result (Option Fixing) Refusal) (f' : Figures) (c' : Columns) : Type 0 where
+pub record CloseAnswered (n : ℕ) (f : Figures) (c : Columns) (r : Result Found Refusal) (f' : Figures) (c' : Columns) : Type 0 where
   pub answer : outcome_of r f' ≡ outcome f call.Close
   pub columns : c' ≡ cond (eqb (number_of r) 0) (closed_columns n f c) c

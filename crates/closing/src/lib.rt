@@ -1,5 +1,5 @@
 // The close of a day, on the lent figures and columns of a book, whose crate is above: every account's cash is posted, and the day's columns start
-// empty.
+// empty; at the end of the contract the positions too.
 #![tactic(auto, unfolding(outcomes::specs::Effects::fixing_of))]
 
 ghost use Rattle.std.specs.Prelude.{◌≡◌};
@@ -9,7 +9,7 @@ ghost use Rattle.closing.specs.Closing.{posting as Closing·posting};
 ghost use Rattle.closing.specs.Inner.{Postable, Closable, CloseAnswered};
 
 use columns::{ACCOUNTS, Account, Columns};
-use figures::{Figures, Outcome};
+use figures::{Figures, Found, Outcome};
 use outcomes::closed_day;
 
 // What a close adds to an account's cash. Numbers within their limits are required, so that the sums fit.
@@ -45,11 +45,14 @@ pub fn close(figures: &mut Figures, columns: &mut Columns) -> Outcome
     requires { Closable figures.old columns.old }
     ensures { CloseAnswered accounts figures.old columns.old result figures.new columns.new }
 {
-    refusals::close(figures.closed, figures.day.fixed.price == 0)?;
+    refusals::close(figures.is_over() | (figures.day.fixed.price == 0))?;
     post(figures, columns);
+    if figures.day.is_final_date() {
+        columns.position = [0; ACCOUNTS];
+    }
     columns.opening = columns.position;
     columns.cost = [0; ACCOUNTS];
     columns.volume = [0; ACCOUNTS];
     closed_day(figures);
-    Ok(None)
+    Ok(Found::Nothing)
 }

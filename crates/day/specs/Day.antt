@@ -1,16 +1,20 @@
 -- A trade date by its parts, the numbers in force on it, and the rules of its minutes.
-use Rattle.std.specs.Prelude.{Bool, false, cond, ◌&&◌, ◌||◌, ℕ, ◌+◌, ◌*◌}
+use Rattle.std.specs.Prelude.{Bool, false, not, cond, ◌&&◌, ◌||◌, ℕ, ◌+◌, ◌*◌}
 use lib.{Dec.leb, Dec.ltb, Dec.eqb, IntN.pos}
 use Rattle.prices.specs.Price.{is_present}
 use Rattle.funding.specs.Minute.{Minute, futures_price}
 use Rattle.settlement.specs.declared.{FinalMinute.FinalMinute, Midpoints.Midpoints}
 use Rattle.funding.specs.{declared.market.Market.Market, Market.no_market, Market.two_sided, Market.midpoint}
-use Rattle.calls.specs.{declared.Trade.Trade, Trade.is_simple, Length.full_day}
+use Rattle.calls.specs.{declared.Trade.Trade, Trade.is_simple, Length.full_day, Length.final_day}
 use Rattle.day.specs.declared.{Day.Day, Markets.Markets}
 
 -- its minutes: 02-1, "the last minute in document 01 is the day's own everywhere"
 abbrev pub day_length : Day → ℕ
 day_length d = d.session.length
+
+-- whether it is a final date: 02-7, "a third length, which a book holds exactly on a final date"
+abbrev pub is_final_date : Day → Bool
+is_final_date d = eqb (day_length d) final_day
 
 -- ---- its parts
 
@@ -65,9 +69,16 @@ minute_of m last u = record { F = futures_price m.bid m.offer last; u = u }
 abbrev pub forbids_minute_end : Day → Bool
 forbids_minute_end d = leb (day_length d) d.minutes.ended || is_fixed d
 
-abbrev pub forbids_fix : Day → Bool
-forbids_fix d = ltb d.minutes.ended (day_length d) || is_fixed d
+abbrev pub forbids_any_fix : Day → Bool
+forbids_any_fix d = ltb d.minutes.ended (day_length d) || is_fixed d
 
--- 3: 02-1, "a late or second record": the date has begun
+-- 3: 02-7, "a fix of the wrong kind", tag 12 being "the only fix on" a final date
+abbrev pub forbids_fix : Day → Bool
+forbids_fix d = is_final_date d || forbids_any_fix d
+
+abbrev pub forbids_final_fix : Day → Bool
+forbids_final_fix d = not (is_final_date d) || forbids_any_fix d
+
+-- 3: 02-1, "a late or second record": the date has begun; 02-7, "a tag 11 out of place", which "may come where tag 8 may, one of the two per date"
 abbrev pub forbids_length : Day → Bool
 forbids_length d = d.session.begun

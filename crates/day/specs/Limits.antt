@@ -8,7 +8,7 @@ use Rattle.funding.specs.{Market.market_holds, Market.minute_market_holds}
 use Rattle.calls.specs.{Length.full_day, Length.is_length, Time.most_time, Time.minute_length}
 use Rattle.day.specs.{declared.Day.Day, Day.day_length, Day.in_last_minute, Day.is_fixed, declared.Markets.Markets}
 
--- 02-1: "A book's length is one of the two, its ended minutes within it"; 01: "valid count k at most the ended minutes; weighted sum S at most 9,999 × 10^9 × k(k+1)/2 in size"
+-- 02-1: "A book's length is one of the two", or the third of 02-7, "its ended minutes within it"; 01: "valid count k at most the ended minutes; weighted sum S at most 9,999 × 10^9 × k(k+1)/2 in size"
 abbrev pub minutes_hold : Day → Bool
 minutes_hold d =
     is_length (day_length d) && leb d.minutes.ended (day_length d) && leb d.minutes.valid d.minutes.ended

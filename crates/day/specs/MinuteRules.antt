@@ -4,7 +4,7 @@ use mathlib.Core.{Path.◌≡◌, Bool.true, Bool.false}
 use Rattle.std.specs.Prelude.{ℕ}
 use Rattle.funding.specs.Terms.{standard_terms}
 use Rattle.funding.specs.{declared.market.Market.Market, Market.no_market, Market.as_minute, Market.is_valid}
-use Rattle.calls.specs.{declared.Trade.Trade, Trade.kind_of, Length.full_day, Length.short_day}
+use Rattle.calls.specs.{declared.Trade.Trade, Trade.kind_of, Length.full_day, Length.short_day, Length.final_day}
 use Rattle.day.specs.Day.{is_final}
 
 abbrev market : ℕ → ℕ → Market
@@ -33,6 +33,9 @@ pub record LastMinute : Type 0 where
   pub short_before : is_final short_day 1138 (trade_of 0) ≡ false
   pub short_last : is_final short_day 1139 (trade_of 0) ≡ true
   pub short_over : is_final short_day 1140 (trade_of 0) ≡ false
+  pub final_before : is_final final_day 1018 (trade_of 0) ≡ false
+  pub final_last : is_final final_day 1019 (trade_of 0) ≡ true
+  pub final_over : is_final final_day 1020 (trade_of 0) ≡ false
 
 -- 01: "A market that turned one-sided still serves that minute, not the next"
 pub record MinuteMarkets : Type 0 where

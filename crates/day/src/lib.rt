@@ -2,10 +2,10 @@
 #![tactic(auto)]
 
 ghost use Rattle.std.specs.Prelude.{◌≡◌};
-ghost use Rattle.day.specs.Day.{day_length, no_markets, empty_day, in_last_minute, forbids_minute_end, forbids_fix};
+ghost use Rattle.day.specs.Day.{day_length, is_final_date, no_markets, empty_day, in_last_minute, forbids_minute_end, forbids_any_fix, forbids_fix, forbids_final_fix};
 ghost use Rattle.day.specs.Limits.{markets_hold, minutes_hold, final_holds, most_total, timing_holds, day_holds};
 
-use calls::{FULL_DAY, MINUTE_LENGTH, MOST_TIME, is_length};
+use calls::{FINAL_DAY, FULL_DAY, MINUTE_LENGTH, MOST_TIME, is_length};
 use funding::market::Market;
 use integers::is_within;
 use prices::{is_price_sum, none_or_price};
@@ -51,9 +51,9 @@ pub struct Fixed {
 // What the first call of a date sets.
 #[derive(Clone, Copy)]
 pub struct Session {
-    // whether the date has accepted a quote, trade, halt, resume, minute end or length of day
+    // whether the date has accepted a quote, trade, halt, resume, minute end or length of day, or was made final
     pub begun: bool,
-    // the minutes of the day
+    // the minutes of the day, by which a final date is known
     pub length: u32,
 }
 
@@ -124,6 +124,12 @@ impl Day {
         u64::from(self.minutes.ended) + 1 == u64::from(self.session.length)
     }
 
+    pub fn is_final_date(self) -> bool
+        ensures { result ≡ is_final_date self }
+    {
+        self.session.length == FINAL_DAY
+    }
+
     fn minutes_hold(self) -> bool
         ensures { result ≡ minutes_hold self }
     {
@@ -171,16 +177,29 @@ impl Day {
         self.minutes_hold() & self.markets.holds() & prices & fix & start & self.timing_holds()
     }
 
-    // 3: whether a minute end, or a fix, comes at a time that the day doesn't allow.
+    // 3: whether a minute end, or a fix of either kind, comes at a time that the day doesn't allow.
     pub fn forbids_minute_end(self) -> bool
         ensures { result ≡ forbids_minute_end self }
     {
         (self.session.length <= self.minutes.ended) | (self.fixed.price != 0)
     }
 
+    fn forbids_any_fix(self) -> bool
+        ensures { result ≡ forbids_any_fix self }
+    {
+        (self.minutes.ended < self.session.length) | (self.fixed.price != 0)
+    }
+
+    // And whether it is a fix of the other kind.
     pub fn forbids_fix(self) -> bool
         ensures { result ≡ forbids_fix self }
     {
-        (self.minutes.ended < self.session.length) | (self.fixed.price != 0)
+        self.is_final_date() | self.forbids_any_fix()
+    }
+
+    pub fn forbids_final_fix(self) -> bool
+        ensures { result ≡ forbids_final_fix self }
+    {
+        !self.is_final_date() | self.forbids_any_fix()
     }
 }

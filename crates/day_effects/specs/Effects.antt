@@ -32,7 +32,7 @@ with_timing d t = record { markets = d.markets; minutes = d.minutes; trades = d.
 abbrev pub begun : Day → Day
 begun d = with_session d (record { length = d.session.length; begun = true })
 
--- 02-1: a length of day "sets 1,320 or 1,140"
+-- 02-1: a length of day "sets 1,320 or 1,140"; 02-7: a tag 11 "makes the date final with length 1,020"
 abbrev pub with_length : Day → ℕ → Day
 with_length d minutes = with_session d (record { length = minutes; begun = d.session.begun })
 

@@ -1,12 +1,13 @@
 -- All that a book holds beside its account columns: the numbers in force, the opening and the limits.
-use Rattle.std.specs.Prelude.{Bool, false, cond, ◌&&◌, ◌||◌, ℕ, Option, None, Result, Ok, Err}
+use Rattle.std.specs.Prelude.{Bool, false, cond, ◌&&◌, ◌||◌, ℕ, Option, Some, None, Result, Ok, Err}
 use lib.{Dec.leb, Dec.eqb}
 use Rattle.integers.specs.declared.{Tie.Tie, Tie.TheVariants.Even}
 use Rattle.prices.specs.Price.{none_or_price}
 use Rattle.funding.specs.{declared.Terms.Terms, Terms.standard_terms}
 use Rattle.refusals.specs.{declared.Refusal.Refusal, Refusals.most_days, Refusals.number, Refusals.number_of}
 use Rattle.day.specs.{Day.empty_day, Limits.day_holds}
-use Rattle.figures.specs.declared.{Figures.Figures, Fixing.Fixing}
+use Rattle.figures.specs.declared.{Figures.Figures, Fixing.Fixing, Found.Found}
+use Rattle.figures.specs.declared.Found.TheVariants as found
 
 -- the terms and the rule for ties in force on the open day: document 01's on every day
 abbrev pub terms_on : Figures → Terms
@@ -27,25 +28,39 @@ is_size s = eqb s hundredth || eqb s tenth
 
 -- 01: "a fresh book holds that size, zeros, and no halt"
 abbrev pub fresh_figures : ℕ → Figures
-fresh_figures s = record { size = s; closed = 0; halted = false; previous = record { price = 0; index = 0 }; day = empty_day }
+fresh_figures s = record { size = s; closed = 0; halted = false; expired = false; previous = record { price = 0; index = 0 }; day = empty_day }
 
--- what a call comes to: the number of its refusal, 0 for none, what a fix found, and the figures after it
+-- 3: "any call on a book with 2,600 closed days"; 02-7: "any call after the final close"
+abbrev pub is_over : Figures → Bool
+is_over f = leb most_days f.closed || f.expired
+
+-- what a call comes to: the number of its refusal, 0 for none, what a fix found, the day of the month that a final date prints, 0 for none, and
+-- the figures after it
 pub record Outcome : Type 0 where
   pub code : ℕ
   pub fixing : Option Fixing
+  pub friday : ℕ
   pub figures : Figures
 
 -- the outcome that the answer to a call stands for, with the figures after it
-abbrev pub fixing_in : Result (Option Fixing) Refusal → Option Fixing
-fixing_in (Ok fixing) = fixing
+abbrev pub fixing_in : Result Found Refusal → Option Fixing
+fixing_in (Ok found.Nothing) = None
+fixing_in (Ok (found.Fixing fixing)) = Some fixing
+fixing_in (Ok (found.Friday day)) = None
 fixing_in (Err r) = None
 
-abbrev pub outcome_of : Result (Option Fixing) Refusal → Figures → Outcome
-outcome_of r f = record { code = number_of r; fixing = fixing_in r; figures = f }
+abbrev pub friday_in : Result Found Refusal → ℕ
+friday_in (Ok found.Nothing) = 0
+friday_in (Ok (found.Fixing fixing)) = 0
+friday_in (Ok (found.Friday day)) = day
+friday_in (Err r) = 0
 
--- figures with a refusal's number, 0 for none, and no fix
+abbrev pub outcome_of : Result Found Refusal → Figures → Outcome
+outcome_of r f = record { code = number_of r; fixing = fixing_in r; friday = friday_in r; figures = f }
+
+-- figures with a refusal's number, 0 for none, and nothing found
 abbrev pub numbered : Figures → ℕ → Outcome
-numbered f number = record { code = number; fixing = None; figures = f }
+numbered f number = record { code = number; fixing = None; friday = 0; figures = f }
 
 -- 01: "A refused opening returns an empty book of size 0"; its number is 5
 abbrev pub opened : ℕ → Outcome

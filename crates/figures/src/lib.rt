@@ -1,9 +1,10 @@
 // The figures of a book: all that it holds beside its account columns.
 #![tactic(auto)]
 
-ghost use Rattle.std.specs.Prelude.{◌≡◌};
-ghost use Rattle.figures.specs.Figures.{terms_on, tie_on, fresh_figures, figures_hold};
-ghost use Rattle.figures.specs.Fixing.{fixing_at, Fixable};
+ghost use Rattle.std.specs.Prelude.{◌≡◌, ◌≤◌};
+ghost use Rattle.prices.specs.Price.{largest_price};
+ghost use Rattle.figures.specs.Figures.{terms_on, tie_on, tenth, fresh_figures, is_over, figures_hold};
+ghost use Rattle.figures.specs.Fixing.{fixing_at, ordinary_fixing, final_fixing, Fixable};
 
 use day::Day;
 use funding::Terms;
@@ -25,6 +26,8 @@ pub struct Figures {
     pub day: Day,
     pub previous: Previous,
     pub halted: bool,
+    // whether the contract has ended, which the close of a final date sets for good
+    pub expired: bool,
 }
 
 // What a fix finds and prints.
@@ -39,8 +42,17 @@ pub struct Fixing {
     pub valid: u32,
 }
 
-// What a call comes to: a refusal, or what it found, which only a fix does.
-pub type Outcome = Result<Option<Fixing>, Refusal>;
+// What an accepted call finds, and prints.
+#[derive(Clone, Copy, Debug, PartialEq, Eq)]
+pub enum Found {
+    Nothing,
+    Fixing(Fixing),
+    // the day of the month of the last Friday of a contract's month
+    Friday(u8),
+}
+
+// What a call comes to: a refusal, or what it found.
+pub type Outcome = Result<Found, Refusal>;
 
 impl Figures {
     // The figures of a fresh book of this size.
@@ -51,9 +63,17 @@ impl Figures {
             size,
             closed: 0,
             halted: false,
+            expired: false,
             previous: Previous::default(),
             day: Day::empty(),
         }
+    }
+
+    // Whether no call is allowed any more: all the closed days that a book may have are there, or the contract has ended.
+    pub fn is_over(self) -> bool
+        ensures { result ≡ is_over self }
+    {
+        (MOST_DAYS <= self.closed) | self.expired
     }
 
     // The terms and the rule for ties in force on the open day.
@@ -80,22 +100,12 @@ impl Figures {
             & self.day.holds()
     }
 
-    // What a fix with this set price, 0 for none as in its call, finds. A gross, a sum of midpoints and a size within
-    // their limits are required, so that the figures fit.
-    pub fn fixing(self, set: u32) -> Fixing
-        requires { Fixable self }
-        ensures { result ≡ fixing_at self set }
+    // What a fix at this settlement price finds. A size within its limits is required, so that the amount fits.
+    fn fixing_at(self, price: u32) -> Fixing
+        requires { self.size ≤ tenth }
+        ensures { result ≡ fixing_at self price }
     {
-        let settling = self.day.trades.settling;
         let minutes = self.day.minutes;
-        let midpoints = self.day.timing.midpoints;
-        let price = settlement::settlement_price(
-            set,
-            settling,
-            midpoints,
-            minutes.index,
-            self.previous,
-        );
         let rate = settlement::rate(minutes.valid, minutes.weighted);
         let clamped = settlement::clamp(rate, self.terms());
         Fixing {
@@ -104,5 +114,29 @@ impl Figures {
             amount: settlement::amount(clamped, price, self.size, self.tie()),
             valid: minutes.valid,
         }
+    }
+
+    // What a fix with this set price, 0 for none as in its call, finds. A gross and a sum of midpoints within their limits are
+    // required too.
+    pub fn fixing(self, set: u32) -> Fixing
+        requires { Fixable self }
+        ensures { result ≡ ordinary_fixing self set }
+    {
+        let price = settlement::settlement_price(
+            set,
+            self.day.trades.settling,
+            self.day.timing.midpoints,
+            self.day.minutes.index,
+            self.previous,
+        );
+        self.fixing_at(price)
+    }
+
+    // What the fix of a final date with this hourly index value finds. A value that is no larger than a price is required.
+    pub fn final_fixing(self, value: u32) -> Fixing
+        requires { (self.size ≤ tenth) × (value ≤ largest_price) }
+        ensures { result ≡ final_fixing self value }
+    {
+        self.fixing_at(settlement::dime_price(value))
     }
 }

@@ -5,6 +5,7 @@ use lib.Dec.{eqb}
 use Rattle.calls.specs.declared.Call.TheVariants as call
 use Rattle.calls.specs.declared.Trade.{Trade}
 use Rattle.refusals.specs.{Refusals.first_met, Sets.set_sentences}
+use Rattle.figures.specs.Figures.{is_over}
 use Rattle.columns.specs.{declared.Columns.Columns, Limits.volumes_hold, Limits.positions_hold}
 use Rattle.trading.specs.Trading.{own_sentences}
 use Rattle.ledger.specs.{declared.Book.Book, Effects.effect, Refusals.within_limits, Step.Answered}
@@ -16,7 +17,7 @@ set_effect n b (t ∷ ts) = set_effect n (effect n b (call.Trade t)) ts
 
 -- what a set of so many trades is refused for before any of them is looked at; 2: "The book holds a number beyond its limits"
 abbrev pub sentences_before_trades : ℕ → Book → ℕ → List (ℕ × Bool)
-sentences_before_trades n b trades = (2, not (within_limits n b)) ∷ set_sentences b.figures.closed b.figures.halted trades
+sentences_before_trades n b trades = (2, not (within_limits n b)) ∷ set_sentences (is_over b.figures) b.figures.halted trades
 
 -- each trade's own sentences: 02-6, "the first in list order that doesn't gives its number"
 unfoldable pub trade_sentences : ℕ → List Trade → List (ℕ × Bool)
@@ -36,4 +37,4 @@ set_refusal n b ts =
 unfoldable pub trade_set : ℕ → Book → List Trade → Answered
 trade_set n b ts =
     let number = set_refusal n b ts in
-    record { code = number; fixing = None; book = cond (eqb number 0) (set_effect n b ts) b }
+    record { code = number; fixing = None; friday = 0; book = cond (eqb number 0) (set_effect n b ts) b }

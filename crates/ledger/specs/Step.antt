@@ -4,20 +4,22 @@ use Rattle.std.specs.Prelude.{ℕ, Option, None, Result}
 use lib.{Dec.eqb, IntN.ℤ}
 use Rattle.calls.specs.declared.Call.{Call}
 use Rattle.refusals.specs.{declared.Refusal.Refusal, Refusals.first_met, Refusals.number_of}
-use Rattle.figures.specs.{declared.Figures.Figures, declared.Fixing.Fixing, Figures.fixing_in, Figures.fresh_figures, Figures.opened}
-use Rattle.outcomes.specs.Effects.{fixing_of}
+use Rattle.figures.specs.{declared.Figures.Figures, declared.Fixing.Fixing, declared.Found.Found, Figures.fixing_in, Figures.friday_in, Figures.fresh_figures, Figures.opened}
+use Rattle.outcomes.specs.Effects.{fixing_of, friday_of}
 use Rattle.columns.specs.Columns.{zero_columns}
 use Rattle.ledger.specs.{declared.Book.Book, Effects.effect, Refusals.refusal, Refusals.within_limits}
 
--- what a call is answered: the number of its refusal, 0 for none, what a fix found, and the book after it
+-- what a call is answered: the number of its refusal, 0 for none, what a fix found, the day of the month that a final date prints, 0 for none, and
+-- the book after it
 pub record Answered : Type 0 where
   pub code : ℕ
   pub fixing : Option Fixing
+  pub friday : ℕ
   pub book : Book
 
 -- that of an outcome with the book after it
-abbrev pub answer_of : Result (Option Fixing) Refusal → Book → Answered
-answer_of r b = record { code = number_of r; fixing = fixing_in r; book = b }
+abbrev pub answer_of : Result Found Refusal → Book → Answered
+answer_of r b = record { code = number_of r; fixing = fixing_in r; friday = friday_in r; book = b }
 
 -- ---- the opening
 
@@ -31,7 +33,7 @@ fresh n s = empty_book n (fresh_figures s)
 
 -- 01: "A fresh book is what an accepted opening hands back"; "A refused opening returns an empty book of size 0"
 abbrev pub opening : ℕ → ℕ → Answered
-opening n s = record { code = (opened s).code; fixing = (opened s).fixing; book = empty_book n (opened s).figures }
+opening n s = record { code = (opened s).code; fixing = (opened s).fixing; friday = (opened s).friday; book = empty_book n (opened s).figures }
 
 -- ---- a call
 
@@ -40,6 +42,7 @@ abbrev pub answer_by : ℕ → ℕ → Book → Call → Answered
 answer_by number n b c = record {
   code = number;
   fixing = cond (eqb number 0) (fixing_of b.figures c) None;
+  friday = cond (eqb number 0) (friday_of c) 0;
   book = cond (eqb number 0) (effect n b c) b;
 }
 

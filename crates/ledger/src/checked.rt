@@ -29,6 +29,8 @@ pub(crate) fn step(book: &mut Book, call: Call) -> Outcome
         Call::Close => closing::close(figures, &mut book.columns),
         Call::DayLength(minutes) => outcomes::day_length(figures, minutes),
         Call::TimedQuote(quote) => outcomes::timed_quote(figures, quote),
+        Call::FinalDate(month) => outcomes::final_date(figures, month),
+        Call::FinalFix(value) => outcomes::final_fix(figures, value),
     }
 }
 

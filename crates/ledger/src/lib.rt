@@ -13,8 +13,9 @@ ghost use Rattle.ledger.specs.Sets.{trade_set as Sets·trade_set};
 use calls::{Call, TimedQuote, Trade};
 use checked::step;
 use columns::{ACCOUNTS, Columns};
+use expiry::Month;
 use figures::product::Product;
-use figures::{Figures, Outcome};
+use figures::{Figures, Found, Outcome};
 use funding::market::Market;
 use refusals::Refusal;
 
@@ -52,7 +53,7 @@ impl Book {
     {
         match Product::opening(size) {
             Ok(figures) => Answer {
-                outcome: Ok(None),
+                outcome: Ok(Found::Nothing),
                 book: Book::empty(figures),
             },
             Err(refusal) => Answer {
@@ -149,13 +150,25 @@ impl Book {
         self.step(Call::TimedQuote(quote))
     }
 
+    pub fn final_date(self, month: Month) -> Answer
+        ensures { answer_of result.outcome result.book ≡ Step·step accounts self (Call.FinalDate month) }
+    {
+        self.step(Call::FinalDate(month))
+    }
+
+    pub fn final_fix(self, value: u32) -> Answer
+        ensures { answer_of result.outcome result.book ≡ Step·step accounts self (Call.FinalFix value) }
+    {
+        self.step(Call::FinalFix(value))
+    }
+
     // A list of trades, accepted whole or not at all. The trades change a copy of the book, so that a refused set hands back the first one.
     pub fn trade_set(self, trades: &[Trade]) -> Answer
         ensures { answer_of result.outcome result.book ≡ Sets·trade_set accounts self trades.now }
     {
         match set::book_with(self, trades) {
             Ok(book) => Answer {
-                outcome: Ok(None),
+                outcome: Ok(Found::Nothing),
                 book,
             },
             Err(refusal) => Answer {

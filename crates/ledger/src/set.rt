@@ -26,7 +26,7 @@ fn test_set(book: &Book, trades: usize) -> Result<(), Refusal>
     ensures { number_of result ≡ first_met (sentences_before_trades accounts book.now trades) }
 {
     Refusal::Limits.when(!book.is_within_limits())?;
-    refusals::trade_set(book.figures.closed, book.figures.halted, trades)
+    refusals::trade_set(book.figures.is_over(), book.figures.halted, trades)
 }
 
 // The refusal of a set whose trades lead to these columns.

@@ -16,6 +16,10 @@ day_line day f =
     with_number "day " day ++ with_number " price " f.price ++ with_signed " rate " f.rate ++ with_signed " amount " f.amount ++ with_number " valid " f.valid
     ++ bytes "\n"
 
+-- 02-7: "prints `final` and the Friday's day"
+abbrev pub final_line : ℕ → List ℕ
+final_line friday = with_number "final " friday ++ bytes "\n"
+
 -- 01: "A close prints account, position and total cash", as "acct 3 net 12 cash -24000"
 abbrev pub account_line : ℕ → ℤ → ℤ → List ℕ
 account_line account position cash = with_number "acct " account ++ with_signed " net " position ++ with_signed " cash " cash ++ bytes "\n"

@@ -4,7 +4,7 @@
 ghost use Rattle.std.specs.Prelude.{◌≡◌};
 ghost use Rattle.text.specs.Text.{Puts};
 ghost use Rattle.columns.specs.Columns.{accounts};
-ghost use Rattle.lines.specs.Lines.{refused_line, day_line, account_line, is_printed, printed_account, account_lines};
+ghost use Rattle.lines.specs.Lines.{refused_line, day_line, final_line, account_line, is_printed, printed_account, account_lines};
 
 use columns::{ACCOUNTS, Account, Columns};
 use figures::Fixing;
@@ -27,6 +27,14 @@ pub fn put_day(window: &mut Window, day: u64, fixing: Fixing)
     window.put_number(b" rate ", fixing.rate);
     window.put_number(b" amount ", fixing.amount);
     window.put_number(b" valid ", fixing.valid);
+    window.put(b"\n");
+}
+
+// `friday` is a day of the month.
+pub fn put_final(window: &mut Window, friday: u8)
+    ensures { Puts window.old (final_line friday) window.new }
+{
+    window.put_number(b"final ", friday);
     window.put(b"\n");
 }
 

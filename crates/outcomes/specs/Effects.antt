@@ -1,16 +1,18 @@
 -- What an accepted call does to the figures: document 01, "A trade date, call by call".
 use Rattle.std.specs.Prelude.{Bool, true, false, ℕ, ◌+◌, Option, None, Some}
-use Rattle.day.specs.{declared.Fixed.Fixed, declared.Day.Day, Day.no_markets, Day.empty_day}
+use Rattle.day.specs.{declared.Fixed.Fixed, declared.Day.Day, Day.is_final_date, Day.no_markets, Day.empty_day}
 use Rattle.day_effects.specs.Effects.{with_markets, with_minutes, with_trades, with_fixed, with_timing, quoted, timing_after_quote, traded, minute_ended, timing_after_minute, next_minute, begun, with_length}
-use Rattle.figures.specs.{declared.Figures.Figures, declared.Fixing.Fixing, Figures.terms_on, Fixing.fix_price, Fixing.fix_amount, Fixing.fixing_at}
+use Rattle.figures.specs.{declared.Figures.Figures, declared.Fixing.Fixing, Figures.terms_on, Fixing.fix_amount, Fixing.fix_price, Fixing.ordinary_fixing, Fixing.final_fixing}
 use Rattle.calls.specs.declared.Call.TheVariants as call
 use Rattle.funding.specs.Market.{is_valid}
-use Rattle.calls.specs.{declared.Call.Call, Calls.on_fix}
+use Rattle.expiry.specs.Table.{last_friday}
+use Rattle.settlement.specs.Fixing.{dime_price}
+use Rattle.calls.specs.{declared.Call.Call, Calls.on_fix, Calls.on_final_date, Calls.on_final_fix, Length.final_day}
 
 abbrev pub with_day : Figures → Bool → Day → Figures
-with_day f halted d = record { size = f.size; closed = f.closed; halted = halted; previous = f.previous; day = d }
+with_day f halted d = record { size = f.size; closed = f.closed; halted = halted; expired = f.expired; previous = f.previous; day = d }
 
--- 02-1: with "a date's first accepted quote, trade, halt, resume or minute end", and with a length of day, the date has begun
+-- 02-1: with "a date's first accepted quote, trade, halt, resume or minute end", with a length of day, and with a final date, the date has begun
 abbrev pub with_begun_day : Figures → Bool → Day → Figures
 with_begun_day f halted d = with_day f halted (begun d)
 
@@ -18,14 +20,16 @@ with_begun_day f halted d = with_day f halted (begun d)
 
 -- 01: "The day is then fixed, with P as its fixed price and this as its fixed amount"
 abbrev pub fixed_at : Figures → ℕ → Fixed
-fixed_at f set = record { price = fix_price f set; amount = fix_amount f set }
+fixed_at f P = record { price = P; amount = fix_amount f P }
 
--- 01: "P and the day's index become the previous ones, … closed days rise by 1, and the day's figures … start empty. A halt carries over"
+-- 01: "P and the day's index become the previous ones, … closed days rise by 1, and the day's figures … start empty. A halt carries over";
+-- 02-7: after the final close "the book then accepts reports only"
 abbrev pub closed_figures : Figures → Figures
 closed_figures f = record {
   size = f.size;
   closed = f.closed + 1;
   halted = f.halted;
+  expired = is_final_date f.day;
   previous = record { price = f.day.fixed.price; index = f.day.minutes.index };
   day = empty_day;
 }
@@ -41,11 +45,17 @@ figures_after f call.Resume = with_begun_day f false f.day
 figures_after f (call.MinuteEnd u) =
     let valid = is_valid (terms_on f) f.halted f.day.markets.minute u in
     with_begun_day f f.halted (with_timing (with_minutes (with_markets f.day (next_minute f.day.markets)) (minute_ended f.day valid u)) (timing_after_minute f.day))
-figures_after f (call.Fix set) = with_day f f.halted (with_fixed f.day (fixed_at f set))
+figures_after f (call.Fix set) = with_day f f.halted (with_fixed f.day (fixed_at f (fix_price f set)))
 figures_after f call.Close = closed_figures f
 figures_after f (call.DayLength l) = with_begun_day f f.halted (with_length f.day l)
 figures_after f (call.TimedQuote q) = with_begun_day f f.halted (with_timing (with_markets f.day (quoted f.day.markets q.market)) (timing_after_quote f.day q.time))
+figures_after f (call.FinalDate m) = with_begun_day f f.halted (with_length f.day final_day)
+figures_after f (call.FinalFix v) = with_day f f.halted (with_fixed f.day (fixed_at f (dime_price v)))
 
 -- what an accepted call found, which only a fix does
 unfoldable pub fixing_of : Figures → Call → Option Fixing
-fixing_of f = on_fix (λ set. Some (fixing_at f set)) None
+fixing_of f c = on_fix (λ set. Some (ordinary_fixing f set)) (on_final_fix (λ v. Some (final_fixing f v)) None c) c
+
+-- 02-7: "prints `final` and the Friday's day", which only a final date does
+abbrev pub friday_of : Call → ℕ
+friday_of = on_final_date last_friday 0

@@ -4,14 +4,15 @@
 ghost use Rattle.std.specs.Prelude.{◌≡◌, true, ◌≤◌};
 ghost use Rattle.refusals.specs.Refusals.{most_days};
 ghost use Rattle.day_effects.specs.Inner.{RoomForTrade};
-ghost use Rattle.figures.specs.Figures.{outcome_of, figures_hold};
+ghost use Rattle.figures.specs.Figures.{tenth, outcome_of, figures_hold};
 ghost use Rattle.figures.specs.Fixing.{Fixable};
 ghost use Rattle.outcomes.specs.Effects.{with_begun_day, figures_after};
 ghost use Rattle.outcomes.specs.Outcome.{outcome};
 
-use calls::{Call, TimedQuote, Trade};
+use calls::{Call, FINAL_DAY, TimedQuote, Trade};
 use day::{Day, Fixed, Markets};
-use figures::{Figures, Fixing, Outcome};
+use expiry::Month;
+use figures::{Figures, Fixing, Found, Outcome};
 use funding::market::Market;
 use settlement::Previous;
 
@@ -25,10 +26,10 @@ fn begin(figures: &mut Figures)
 pub fn quote(figures: &mut Figures, market: Market) -> Outcome
     ensures { outcome_of result figures.new ≡ outcome figures.old (Call.Quote market) }
 {
-    refusals::quote(figures.closed, figures.halted, market)?;
+    refusals::quote(figures.is_over(), figures.halted, market)?;
     day_effects::quoted(&mut figures.day, market);
     begin(figures);
-    Ok(None)
+    Ok(Found::Nothing)
 }
 
 // Figures within their limits are required, so that the time has room.
@@ -37,14 +38,14 @@ pub fn timed_quote(figures: &mut Figures, quote: TimedQuote) -> Outcome
     ensures { outcome_of result figures.new ≡ outcome figures.old (Call.TimedQuote quote) }
 {
     refusals::timed_quote(
-        figures.closed,
+        figures.is_over(),
         figures.halted,
         figures.day.timing.latest,
         quote,
     )?;
     day_effects::timed_quoted(&mut figures.day, quote);
     begin(figures);
-    Ok(None)
+    Ok(Found::Nothing)
 }
 
 // An accepted trade. Room for it in n and in the gross is required.
@@ -59,29 +60,29 @@ pub fn traded(figures: &mut Figures, t: Trade)
 pub fn halt(figures: &mut Figures) -> Outcome
     ensures { outcome_of result figures.new ≡ outcome figures.old Call.Halt }
 {
-    refusals::halt(figures.closed, figures.halted)?;
+    refusals::halt(figures.is_over(), figures.halted)?;
     figures.halted = true;
     figures.day.markets = Markets::none();
     begin(figures);
-    Ok(None)
+    Ok(Found::Nothing)
 }
 
 pub fn resume(figures: &mut Figures) -> Outcome
     ensures { outcome_of result figures.new ≡ outcome figures.old Call.Resume }
 {
-    refusals::resume(figures.closed, figures.halted)?;
+    refusals::resume(figures.is_over(), figures.halted)?;
     figures.halted = false;
     begin(figures);
-    Ok(None)
+    Ok(Found::Nothing)
 }
 
 pub fn day_length(figures: &mut Figures, minutes: u32) -> Outcome
     ensures { outcome_of result figures.new ≡ outcome figures.old (Call.DayLength minutes) }
 {
-    refusals::day_length(figures.closed, figures.day.session.begun, minutes)?;
+    refusals::day_length(figures.is_over() | figures.day.session.begun, minutes)?;
     figures.day.session.length = minutes;
     begin(figures);
-    Ok(None)
+    Ok(Found::Nothing)
 }
 
 // Figures within their limits are required, so that the weighted sum fits.
@@ -90,14 +91,14 @@ pub fn minute_end(figures: &mut Figures, index: u32) -> Outcome
     ensures { outcome_of result figures.new ≡ outcome figures.old (Call.MinuteEnd index) }
 {
     let day = figures.day;
-    refusals::minute_end(figures.closed, day.forbids_minute_end(), index)?;
+    refusals::minute_end(figures.is_over() | day.forbids_minute_end(), index)?;
     let valid = day
         .markets
         .minute
         .is_valid(figures.halted, index, figures.terms());
     day_effects::minute_ended(&mut figures.day, valid, index);
     begin(figures);
-    Ok(None)
+    Ok(Found::Nothing)
 }
 
 pub fn fix(figures: &mut Figures, set: u32) -> Outcome
@@ -106,10 +107,33 @@ pub fn fix(figures: &mut Figures, set: u32) -> Outcome
 {
     let day = figures.day;
     let fixing = figures.fixing(set);
-    refusals::fix(figures.closed, day.forbids_fix(), set, fixing.price)?;
+    refusals::fix(figures.is_over() | day.forbids_fix(), set, fixing.price)?;
     let Fixing { price, amount, .. } = fixing;
     figures.day.fixed = Fixed { price, amount };
-    Ok(Some(fixing))
+    Ok(Found::Fixing(fixing))
+}
+
+// The date becomes the contract's last one.
+pub fn final_date(figures: &mut Figures, month: Month) -> Outcome
+    ensures { outcome_of result figures.new ≡ outcome figures.old (Call.FinalDate month) }
+{
+    refusals::final_date(figures.is_over() | figures.day.session.begun, month)?;
+    figures.day.session.length = FINAL_DAY;
+    begin(figures);
+    Ok(Found::Friday(month.last_friday()))
+}
+
+// A size within its limits is required, so that the amount fits.
+pub fn final_fix(figures: &mut Figures, value: u32) -> Outcome
+    requires { figures.old.size ≤ tenth }
+    ensures { outcome_of result figures.new ≡ outcome figures.old (Call.FinalFix value) }
+{
+    let day = figures.day;
+    refusals::final_fix(figures.is_over() | day.forbids_final_fix(), value)?;
+    let fixing = figures.final_fixing(value);
+    let Fixing { price, amount, .. } = fixing;
+    figures.day.fixed = Fixed { price, amount };
+    Ok(Found::Fixing(fixing))
 }
 
 // An accepted close. Here and in the columns' limits closed days within their own are required: a book may have any number of them
@@ -123,5 +147,6 @@ pub fn closed_day(figures: &mut Figures)
         index: figures.day.minutes.index,
     };
     figures.closed += 1;
+    figures.expired = figures.day.is_final_date();
     figures.day = Day::empty();
 }

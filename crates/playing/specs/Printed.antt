@@ -2,7 +2,7 @@
 use mathlib.Core.{Bool.cond}
 use Rattle.std.specs.Prelude.{ℕ, ◌+◌, Option, Some, None, Result, Ok, Err}
 use lib.Dec.{eqb}
-use Rattle.calls.specs.{declared.Call.Call, Calls.on_fix, Calls.on_close}
+use Rattle.calls.specs.{declared.Call.Call, Calls.on_fix, Calls.on_close, Calls.on_final_date, Calls.on_final_fix}
 use Rattle.figures.specs.declared.Fixing.{Fixing}
 use Rattle.columns.specs.Columns.{accounts}
 use Rattle.ledger.specs.{declared.Book.Book, Step.Answered, Step.step}
@@ -19,13 +19,16 @@ abbrev pub printed_fix : Option Fixing → ℕ → Option Printed
 printed_fix None closed = None
 printed_fix (Some fixing) closed = Some (printed.Day (closed + 1) fixing)
 
--- 01: "A fix prints the day counted from 1, P, clamped rate, amount and k. A close prints" the accounts. Other accepted calls print nothing.
-abbrev pub printed_when_accepted : Option Fixing → ℕ → Call → Option Printed
-printed_when_accepted fixing closed c = on_fix (λ set. printed_fix fixing closed) (on_close (Some printed.Accounts) None c) c
+-- 01: "A fix prints the day counted from 1, P, clamped rate, amount and k. A close prints" the accounts; 02-7: a final date "prints `final` and the Friday's day".
+-- Other accepted calls print nothing.
+abbrev pub printed_when_accepted : Option Fixing → ℕ → ℕ → Call → Option Printed
+printed_when_accepted fixing friday closed c =
+    on_fix (λ set. printed_fix fixing closed)
+    (on_final_fix (λ v. printed_fix fixing closed) (on_close (Some printed.Accounts) (on_final_date (λ m. Some (printed.Final friday)) None c) c) c) c
 
 -- 01: "A refused record prints `refused`, its number, `record`, its place from 1 (unknown ones count)"
-abbrev pub printed_by : ℕ → Option Fixing → ℕ → Call → ℕ → Option Printed
-printed_by number fixing closed c place = printed_number number place (printed_when_accepted fixing closed c)
+abbrev pub printed_by : ℕ → Option Fixing → ℕ → ℕ → Call → ℕ → Option Printed
+printed_by number fixing friday closed c place = printed_number number place (printed_when_accepted fixing friday closed c)
 
 -- what a record prints, and the book after it
 pub record AfterRecord : Type 0 where
@@ -33,7 +36,7 @@ pub record AfterRecord : Type 0 where
   pub book : Book
 
 abbrev pub played : Answered → Call → ℕ → AfterRecord
-played a c place = record { printed = printed_by a.code a.fixing a.book.figures.closed c place; book = a.book }
+played a c place = record { printed = printed_by a.code a.fixing a.friday a.book.figures.closed c place; book = a.book }
 
 -- a record that makes no call on the book: it is refused by 1, or prints nothing
 abbrev pub not_played : Book → Result (Option Call) RecordError → ℕ → AfterRecord

@@ -3,12 +3,12 @@
 
 ghost use Rattle.std.specs.Prelude.{◌≡◌};
 ghost use Rattle.refusals.specs.Refusals.{number, number_of};
-ghost use Rattle.figures.specs.Figures.{fixing_in};
+ghost use Rattle.figures.specs.Figures.{fixing_in, friday_in};
 ghost use Rattle.playing.specs.Printed.{printed_by, played_record};
 
 use calls::Call;
 use dayfile::RecordError;
-use figures::{Fixing, Outcome};
+use figures::{Fixing, Found, Outcome};
 use ledger::checked::CheckedBook;
 use refusals::Refusal;
 
@@ -21,6 +21,8 @@ pub enum Printed {
     Day { day: u64, fixing: Fixing },
     // a line for each account that is printed
     Accounts,
+    // final FRIDAY
+    Final(u8),
 }
 
 impl Printed {
@@ -36,15 +38,16 @@ impl Printed {
 
 // What a call prints that came to this, after so many closed days.
 fn printed_by(outcome: Outcome, closed: u32, call: Call, place: u64) -> Option<Printed>
-    ensures { result ≡ printed_by (number_of outcome) (fixing_in outcome) closed call place }
+    ensures { result ≡ printed_by (number_of outcome) (fixing_in outcome) (friday_in outcome) closed call place }
 {
     match outcome {
         Err(refusal) => Some(Printed::refused(refusal, place)),
-        Ok(found) => match call {
-            Call::Fix(_) => found.map(|fixing| Printed::Day {
-                day: u64::from(closed) + 1,
-                fixing,
-            }),
+        Ok(Found::Fixing(fixing)) => Some(Printed::Day {
+            day: u64::from(closed) + 1,
+            fixing,
+        }),
+        Ok(Found::Friday(day)) => Some(Printed::Final(day)),
+        Ok(Found::Nothing) => match call {
             Call::Close => Some(Printed::Accounts),
             _ => None,
         },

@@ -3,7 +3,7 @@ use mathlib.Core.{Bool.cond, List.List, List.[], List.◌∷◌, List.◌++◌}
 use Rattle.std.specs.Prelude.{ℕ, ◌+◌, Option, Some, None}
 use lib.{Dec.eqb, ListN.take, ListN.drop, ListN.get_or}
 use Rattle.text.specs.Text.{bytes}
-use Rattle.lines.specs.Lines.{refused_line, day_line, account_lines}
+use Rattle.lines.specs.Lines.{refused_line, day_line, final_line, account_lines}
 use Rattle.columns.specs.{declared.Columns.Columns, Columns.accounts}
 use Rattle.ledger.specs.{declared.Book.Book, Step.opening}
 use Rattle.dayfile.specs.{declared.Read.Read, Calls.records_of}
@@ -15,6 +15,7 @@ abbrev pub text_of : Option Printed → Columns → List ℕ
 text_of None c = []
 text_of (Some (printed.Refused number place)) c = refused_line number place
 text_of (Some (printed.Day day fixing)) c = day_line day fixing
+text_of (Some (printed.Final friday)) c = final_line friday
 text_of (Some printed.Accounts) c = account_lines accounts c.position c.cash
 
 -- a text, and the book behind its last line

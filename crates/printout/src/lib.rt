@@ -9,7 +9,7 @@ ghost use Rattle.printout.specs.Printout.{most_input, text_of, after_records, pr
 use columns::Columns;
 use dayfile::read_record;
 use ledger::checked::CheckedBook;
-use lines::{put_accounts, put_day, put_refused};
+use lines::{put_accounts, put_day, put_final, put_refused};
 use playing::{Printed, play_record};
 use text::Window;
 
@@ -23,6 +23,7 @@ fn put_printed(window: &mut Window, printed: Option<Printed>, columns: &Columns)
     match printed {
         Some(Printed::Refused { number, place }) => put_refused(window, number, place),
         Some(Printed::Day { day, fixing }) => put_day(window, day, fixing),
+        Some(Printed::Final(friday)) => put_final(window, friday),
         Some(Printed::Accounts) => put_accounts(window, columns),
         None => {}
     }

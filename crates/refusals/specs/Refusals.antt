@@ -1,11 +1,12 @@
--- The number of each refusal; refusals 3 to 9, 11 and 12 of a call, in checking order: a number comes if its sentence is met, and only then.
+-- The number of each refusal; refusals 3 to 9, 11, 12 and 14 of a call, in checking order: a number comes if its sentence is met, and only then.
 use mathlib.Core.{Path.◌≡◌, Bool.Bool, Bool.false, Bool.not, Bool.cond, Bool.◌&&◌, Bool.◌||◌, List.List, List.[], List.◌∷◌}
-use Rattle.std.specs.Prelude.{ℕ, leb, ltb, Result, Ok, Err}
-use Rattle.prices.specs.Price.{is_present, none_or_price, none_or_ticked}
+use Rattle.std.specs.Prelude.{ℕ, ltb, Result, Ok, Err}
+use Rattle.prices.specs.Price.{is_present, is_price, none_or_price, none_or_ticked}
+use Rattle.expiry.specs.Table.{is_in_table}
 use Rattle.refusals.specs.declared.Refusal.{Refusal}
 use Rattle.refusals.specs.declared.Refusal.TheVariants as refusal
 use Rattle.funding.specs.{declared.market.Market.Market, Market.uncrossed}
-use Rattle.calls.specs.{declared.Call.Call, declared.TimedQuote.TimedQuote, Calls.on_quote, Calls.on_trade, Calls.on_halt, Calls.on_resume, Calls.on_minute_end, Calls.on_fix, Calls.on_day_length, Calls.on_timed_quote, Length.is_length, Time.most_time, Trade.trade_outside}
+use Rattle.calls.specs.{declared.Call.Call, declared.TimedQuote.TimedQuote, Calls.on_quote, Calls.on_trade, Calls.on_halt, Calls.on_resume, Calls.on_minute_end, Calls.on_fix, Calls.on_day_length, Calls.on_timed_quote, Calls.on_final_date, Calls.on_final_fix, Length.is_ordinary_length, Time.most_time, Trade.trade_outside}
 
 -- the number of each refusal in documents 01 and 02
 abbrev pub number : Refusal → ℕ
@@ -22,6 +23,7 @@ number refusal.Lists = 10
 number refusal.Time = 11
 number refusal.Account = 12
 number refusal.SetLength = 13
+number refusal.Month = 14
 
 -- no two refusals have one number, so that a number says which one it is: proved in proofs/Numbers.antt
 abbrev pub OwnNumbers : Type 0
@@ -36,13 +38,13 @@ number_of (Err r) = number r
 abbrev pub most_days : ℕ
 most_days = 2600
 
--- 3: "any call on a book with 2,600 closed days"
-abbrev pub is_full : ℕ → Bool
-is_full closed = leb most_days closed
-
 -- 4: "A trade, quote or halt comes while halted, or a resume while not"
 abbrev pub halt_forbids : Bool → Call → Bool
 halt_forbids halted c = on_trade (λ t. halted) (on_quote (λ m. halted) (on_halt halted (on_resume (not halted) false c) c) c) c
+
+-- 14: 02-7, "A month outside the table"
+abbrev pub outside_table : Call → Bool
+outside_table = on_final_date (λ m. not (is_in_table m)) false
 
 -- 5: "a nonzero quote side … not ticked"
 abbrev pub sides_outside : Market → Bool
@@ -52,13 +54,14 @@ sides_outside m = not (none_or_ticked m.bid && none_or_ticked m.offer)
 abbrev pub timed_quote_outside : TimedQuote → Bool
 timed_quote_outside q = ltb most_time q.time || sides_outside q.market
 
--- 5: "A value is outside its field: …; an index or set price neither 0 nor a price"; 02-1: "Any other length is refused by 5"
+-- 5: "A value is outside its field: …; an index or set price neither 0 nor a price"; 02-1: "Any other length is refused by 5"; 02-7:
+-- "an hourly value that is no price is 5"
 abbrev pub outside_field : Call → Bool
 outside_field c =
     on_timed_quote timed_quote_outside
     (on_quote sides_outside
     (on_trade trade_outside
-    (on_minute_end (λ u. not (none_or_price u)) (on_fix (λ set. not (none_or_price set)) (on_day_length (λ l. not (is_length l)) false c) c) c) c) c) c
+    (on_minute_end (λ u. not (none_or_price u)) (on_fix (λ set. not (none_or_price set)) (on_day_length (λ l. not (is_ordinary_length l)) (on_final_fix (λ v. not (is_price v)) false c) c) c) c) c) c) c
 
 -- 11: 02-4, a time "that runs back within its minute (all after the last minute end is one)", where this is the latest time given in it
 abbrev pub runs_back : ℕ → Call → Bool
@@ -81,13 +84,14 @@ pub record Accounts : Type 0 where
 abbrev pub no_accounts : Accounts
 no_accounts = record { missing = false; volume = false; position = false }
 
--- The sentences in checking order, each with its number, by the closed days, whether the day doesn't allow the call, the halt,
--- the latest time given in the minute, the price that a fix finds, and the accounts. 02-4: 11 is "checked right after 5"; 02-5: "An
--- account above 1,023 meets the new refusal 12, checked just before 7".
-abbrev pub sentences : ℕ → Bool → Bool → ℕ → ℕ → Call → Accounts → List (ℕ × Bool)
-sentences closed forbidden halted latest price c a =
-    (3, is_full closed || forbidden)
+-- The sentences in checking order, each with its number, by whether the day doesn't allow the call, the halt, the latest time given in
+-- the minute, the price that a fix finds, and the accounts. 02-4: 11 is "checked right after 5"; 02-5: "An account above 1,023 meets
+-- the new refusal 12, checked just before 7"; 02-7: 14 is "checked after 4".
+abbrev pub sentences : Bool → Bool → ℕ → ℕ → Call → Accounts → List (ℕ × Bool)
+sentences forbidden halted latest price c a =
+    (3, forbidden)
     ∷ (4, halt_forbids halted c)
+    ∷ (14, outside_table c)
     ∷ (5, outside_field c)
     ∷ (11, runs_back latest c)
     ∷ (6, crossed c)
@@ -103,10 +107,9 @@ first_met [] = 0
 first_met (s ∷ rest) = cond s.1 s.0 (first_met rest)
 
 -- the number of a call's refusal where its accounts give none
-abbrev pub refusal_by : ℕ → Bool → Bool → ℕ → ℕ → Call → ℕ
-refusal_by closed forbidden halted latest price c = first_met (sentences closed forbidden halted latest price c no_accounts)
+abbrev pub refusal_by : Bool → Bool → ℕ → ℕ → Call → ℕ
+refusal_by forbidden halted latest price c = first_met (sentences forbidden halted latest price c no_accounts)
 
 -- ---- what the private function promises: the sentences that calls of most kinds can meet
-abbrev pub first_sentences : ℕ → Bool → Bool → Bool → Result Unit Refusal
-first_sentences closed forbidden stopped outside =
-    cond (is_full closed || forbidden) (Err refusal.Day) (cond stopped (Err refusal.Halt) (cond outside (Err refusal.Field) (Ok tt)))
+abbrev pub first_sentences : Bool → Bool → Bool → Result Unit Refusal
+first_sentences forbidden stopped outside = cond forbidden (Err refusal.Day) (cond stopped (Err refusal.Halt) (cond outside (Err refusal.Field) (Ok tt)))

@@ -1,16 +1,17 @@
-// Which refusal a call or a set of trades meets, by its values and what the book says of it: refusals 3 to 9 and 11 to 13, where its accounts
+// Which refusal a call or a set of trades meets, by its values and what the book says of it: refusals 3 to 9 and 11 to 14, where its accounts
 // give none.
 #![tactic(auto)]
 
 ghost use Rattle.std.specs.Prelude.{◌≡◌, false, cond, Ok, Err};
-ghost use Rattle.refusals.specs.Refusals.{is_full, number_of, sides_outside, timed_quote_outside, refusal_by, first_met};
+ghost use Rattle.refusals.specs.Refusals.{number_of, sides_outside, timed_quote_outside, refusal_by, first_met};
 ghost use Rattle.refusals.specs.Sets.{set_sentences};
 ghost use Rattle.refusals.specs.Refusals.{first_sentences as Refusals·first_sentences};
 ghost use Rattle.refusals.specs.Refusals.{number as Refusals·number};
 
-use calls::{Call, MOST_TIME, TimedQuote, Trade, is_length, is_set_length};
+use calls::{Call, MOST_TIME, TimedQuote, Trade, is_ordinary_length, is_set_length};
+use expiry::Month;
 use funding::market::Market;
-use prices::{none_or_price, none_or_ticked};
+use prices::{is_price, none_or_price, none_or_ticked};
 
 pub const MOST_DAYS: u32 = 2_600;
 
@@ -30,6 +31,7 @@ pub enum Refusal {
     Time,
     Account,
     SetLength,
+    Month,
 }
 
 // Documents 01 and 02's number.
@@ -51,6 +53,7 @@ impl From<Refusal> for u8 {
             Refusal::Time => 11,
             Refusal::Account => 12,
             Refusal::SetLength => 13,
+            Refusal::Month => 14,
         }
     }
 }
@@ -64,25 +67,14 @@ impl Refusal {
     }
 }
 
-// Whether a book has all the closed days that it may have, which allows no call.
-fn is_full(closed: u32) -> bool
-    ensures { result ≡ is_full closed }
-{
-    MOST_DAYS <= closed
-}
-
-// Here and below the closed days and the halt are values beside one another: the figures that have both stand in a crate above.
+// Here and below what the day and the halt say of a call are values beside one another: the figures that have both stand in a crate
+// above. `forbidden` says that the day doesn't allow the call.
 // The sentences that calls of most kinds can meet, in their order: 3 where the day doesn't allow the call, 4 where the halt
 // doesn't, or its absence, and 5 where a value is outside its field.
-fn first_sentences(
-    closed: u32,
-    forbidden: bool,
-    stopped: bool,
-    outside: bool,
-) -> Result<(), Refusal>
-    ensures { result ≡ Refusals·first_sentences closed forbidden stopped outside }
+fn first_sentences(forbidden: bool, stopped: bool, outside: bool) -> Result<(), Refusal>
+    ensures { result ≡ Refusals·first_sentences forbidden stopped outside }
 {
-    Refusal::Day.when(is_full(closed) | forbidden)?;
+    Refusal::Day.when(forbidden)?;
     Refusal::Halt.when(stopped)?;
     Refusal::Field.when(outside)
 }
@@ -99,73 +91,86 @@ fn timed_quote_outside(quote: TimedQuote) -> bool
     (MOST_TIME < quote.time) | sides_outside(quote.market)
 }
 
-pub fn quote(closed: u32, halted: bool, market: Market) -> Result<(), Refusal>
-    ensures { number_of result ≡ refusal_by closed false halted 0 0 (Call.Quote market) }
+pub fn quote(forbidden: bool, halted: bool, market: Market) -> Result<(), Refusal>
+    ensures { number_of result ≡ refusal_by forbidden false halted 0 0 (Call.Quote market) }
 {
-    first_sentences(closed, false, halted, sides_outside(market))?;
+    first_sentences(forbidden, halted, sides_outside(market))?;
     Refusal::Crossed.when(!market.is_uncrossed())
 }
 
 // The refusal of a timed quote where this is the latest time given in its minute.
-pub fn timed_quote(closed: u32, halted: bool, latest: u32, quote: TimedQuote) -> Result<(), Refusal>
-    ensures { number_of result ≡ refusal_by closed false halted latest 0 (Call.TimedQuote quote) }
+pub fn timed_quote(forbidden: bool, halted: bool, latest: u32, quote: TimedQuote) -> Result<(), Refusal>
+    ensures { number_of result ≡ refusal_by forbidden false halted latest 0 (Call.TimedQuote quote) }
 {
-    first_sentences(closed, false, halted, timed_quote_outside(quote))?;
+    first_sentences(forbidden, halted, timed_quote_outside(quote))?;
     Refusal::Time.when(quote.time < latest)?;
     Refusal::Crossed.when(!quote.market.is_uncrossed())
 }
 
-pub fn trade(closed: u32, halted: bool, t: Trade) -> Result<(), Refusal>
-    ensures { number_of result ≡ refusal_by closed false halted 0 0 (Call.Trade t) }
+pub fn trade(forbidden: bool, halted: bool, t: Trade) -> Result<(), Refusal>
+    ensures { number_of result ≡ refusal_by forbidden false halted 0 0 (Call.Trade t) }
 {
-    first_sentences(closed, false, halted, t.is_outside())
+    first_sentences(forbidden, halted, t.is_outside())
 }
 
 // The refusal of a set of so many trades, before any of them is looked at.
-pub fn trade_set(closed: u32, halted: bool, trades: usize) -> Result<(), Refusal>
-    ensures { number_of result ≡ first_met (set_sentences closed halted trades) }
+pub fn trade_set(over: bool, halted: bool, trades: usize) -> Result<(), Refusal>
+    ensures { number_of result ≡ first_met (set_sentences over halted trades) }
 {
-    first_sentences(closed, false, halted, false)?;
+    first_sentences(over, halted, false)?;
     Refusal::SetLength.when(!is_set_length(trades))
 }
 
-pub fn halt(closed: u32, halted: bool) -> Result<(), Refusal>
-    ensures { number_of result ≡ refusal_by closed false halted 0 0 Call.Halt }
+pub fn halt(forbidden: bool, halted: bool) -> Result<(), Refusal>
+    ensures { number_of result ≡ refusal_by forbidden false halted 0 0 Call.Halt }
 {
-    first_sentences(closed, false, halted, false)
+    first_sentences(forbidden, halted, false)
 }
 
-pub fn resume(closed: u32, halted: bool) -> Result<(), Refusal>
-    ensures { number_of result ≡ refusal_by closed false halted 0 0 Call.Resume }
+pub fn resume(forbidden: bool, halted: bool) -> Result<(), Refusal>
+    ensures { number_of result ≡ refusal_by forbidden false halted 0 0 Call.Resume }
 {
-    first_sentences(closed, false, !halted, false)
+    first_sentences(forbidden, !halted, false)
 }
 
-// Here and below, `forbidden` says that the day doesn't allow the call.
-pub fn minute_end(closed: u32, forbidden: bool, index: u32) -> Result<(), Refusal>
-    ensures { number_of result ≡ refusal_by closed forbidden false 0 0 (Call.MinuteEnd index) }
+pub fn minute_end(forbidden: bool, index: u32) -> Result<(), Refusal>
+    ensures { number_of result ≡ refusal_by forbidden false 0 0 (Call.MinuteEnd index) }
 {
-    first_sentences(closed, forbidden, false, !none_or_price(index))
+    first_sentences(forbidden, false, !none_or_price(index))
 }
 
 // Refusal 4 doesn't name a length of day, so that a halt doesn't stop it.
-pub fn day_length(closed: u32, forbidden: bool, minutes: u32) -> Result<(), Refusal>
-    ensures { number_of result ≡ refusal_by closed forbidden false 0 0 (Call.DayLength minutes) }
+pub fn day_length(forbidden: bool, minutes: u32) -> Result<(), Refusal>
+    ensures { number_of result ≡ refusal_by forbidden false 0 0 (Call.DayLength minutes) }
 {
-    first_sentences(closed, forbidden, false, !is_length(minutes))
+    first_sentences(forbidden, false, !is_ordinary_length(minutes))
+}
+
+// Nor does it name a final date.
+pub fn final_date(forbidden: bool, month: Month) -> Result<(), Refusal>
+    ensures { number_of result ≡ refusal_by forbidden false 0 0 (Call.FinalDate month) }
+{
+    Refusal::Day.when(forbidden)?;
+    Refusal::Month.when(!month.is_in_table())
+}
+
+pub fn final_fix(forbidden: bool, value: u32) -> Result<(), Refusal>
+    ensures { number_of result ≡ refusal_by forbidden false 0 0 (Call.FinalFix value) }
+{
+    first_sentences(forbidden, false, !is_price(value))
 }
 
 // The refusal of a fix where the price that it finds is this one. The set price is 0 for none, as in its call, and the other one 0
 // where refusal 9 comes.
-pub fn fix(closed: u32, forbidden: bool, set: u32, price: u32) -> Result<(), Refusal>
-    ensures { number_of result ≡ refusal_by closed forbidden false 0 price (Call.Fix set) }
+pub fn fix(forbidden: bool, set: u32, price: u32) -> Result<(), Refusal>
+    ensures { number_of result ≡ refusal_by forbidden false 0 price (Call.Fix set) }
 {
-    first_sentences(closed, forbidden, false, !none_or_price(set))?;
+    first_sentences(forbidden, false, !none_or_price(set))?;
     Refusal::Unpriced.when(price == 0)
 }
 
-pub fn close(closed: u32, forbidden: bool) -> Result<(), Refusal>
-    ensures { number_of result ≡ refusal_by closed forbidden false 0 0 Call.Close }
+pub fn close(forbidden: bool) -> Result<(), Refusal>
+    ensures { number_of result ≡ refusal_by forbidden false 0 0 Call.Close }
 {
-    first_sentences(closed, forbidden, false, false)
+    first_sentences(forbidden, false, false)
 }

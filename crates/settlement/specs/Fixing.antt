@@ -26,6 +26,13 @@ average_price traded = nearest Even traded.gross traded.contracts
 abbrev pub average_midpoint : Midpoints → ℕ
 average_midpoint m = nearest Even m.sum m.total
 
+-- 02-7: "that value rounded to the nearest 10 cents, ties to the even dime"
+abbrev pub dime : ℕ
+dime = 10
+
+abbrev pub dime_price : ℕ → ℕ
+dime_price value = nearest Even value dime * dime
+
 -- 01: "day's index + previous price − previous index, when all three are nonzero and the result is a price"; 0 otherwise
 abbrev pub index_price : ℕ → Previous → ℕ
 index_price index previous =

@@ -1,6 +1,6 @@
--- Which rule gives a settlement price, at numbers that a reader checks with a pencil. Proved by computing in proofs/PriceRules.antt.
+-- Which rule gives a settlement price, and that of a final date, at numbers that a reader checks with a pencil. Proved by computing in proofs/PriceRules.antt.
 use Rattle.std.specs.Prelude.{◌≡◌, ℕ}
-use Rattle.settlement.specs.{declared.FinalMinute.FinalMinute, declared.Midpoints.Midpoints, declared.Previous.Previous, Fixing.settlement_price}
+use Rattle.settlement.specs.{declared.FinalMinute.FinalMinute, declared.Midpoints.Midpoints, declared.Previous.Previous, Fixing.settlement_price, Fixing.dime_price}
 
 abbrev traded : ℕ → ℕ → FinalMinute
 traded n gross = record { contracts = n; gross = gross }
@@ -36,3 +36,14 @@ pub record MidpointRule : Type 0 where
   pub one_millisecond : settlement_price 0 (traded 0 0) (quoted 1 30001) 6000 (before 7000 5500) ≡ 30001
   pub midpoint_tie_up : settlement_price 0 (traded 0 0) (quoted 2 60003) 6000 (before 7000 5500) ≡ 30002
   pub midpoint_tie_down : settlement_price 0 (traded 0 0) (quoted 2 60005) 6000 (before 7000 5500) ≡ 30002
+
+-- 02-7: "rounded to the nearest 10 cents, ties to the even dime"
+pub record Dimes : Type 0 where
+  pub whole : dime_price 200000 ≡ 200000
+  pub below_half : dime_price 200004 ≡ 200000
+  pub tie_down : dime_price 200005 ≡ 200000
+  pub above_half : dime_price 200006 ≡ 200010
+  pub tie_up : dime_price 200015 ≡ 200020
+  pub below_dime : dime_price 200019 ≡ 200020
+  pub least : dime_price 5000 ≡ 5000
+  pub near_largest : dime_price 49999995 ≡ 50000000

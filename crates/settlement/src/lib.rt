@@ -8,7 +8,7 @@ ghost use Rattle.std.specs.Prelude.{◌≡◌, ◌*◌, ◌<◌, ◌≤◌, ◌^
 ghost use Rattle.integers.specs.Rounding.{nearest};
 ghost use Rattle.integers.specs.declared.Tie.TheVariants.{Even};
 ghost use Rattle.prices.specs.Price.{largest_price};
-ghost use Rattle.settlement.specs.Fixing.{rate_of, clamped_to, amount_of, index_price, settlement_price};
+ghost use Rattle.settlement.specs.Fixing.{rate_of, clamped_to, amount_of, index_price, settlement_price, dime_price};
 
 use funding::Terms;
 use integers::Tie;
@@ -16,6 +16,9 @@ use prices::is_price;
 
 // A rate in nano times a size in hundredths of a coin, as a number.
 const AMOUNT_SCALE: i64 = 100_000_000_000;
+
+// Ten cents, to which the settlement price of a final date is rounded.
+const DIME: u32 = 10;
 
 // The kind 0 trades of a day's last minute: document 01's n, their contracts, and gross, quantity × price added up.
 #[derive(Clone, Copy, Default)]
@@ -112,4 +115,13 @@ pub fn settlement_price(
         return average(midpoints.sum, midpoints.total);
     }
     index_price(index, previous)
+}
+
+// The settlement price of a final date, by its hourly index value. A value that is no larger than a price is required, so that its dimes fit.
+pub fn dime_price(value: u32) -> u32
+    requires { value ≤ largest_price }
+    ensures { result ≡ dime_price value }
+{
+    let dimes = integers::half_even(i64::from(value), i64::from(DIME));
+    dimes as u32 * DIME
 }

@@ -18,6 +18,8 @@ pub enum Tag {
     DayLength,
     TimedQuote,
     TwoByteTrade,
+    FinalDate,
+    FinalFix,
 }
 
 // A byte that is no known tag's.
@@ -39,6 +41,8 @@ impl From<Tag> for u8 {
             Tag::DayLength => 8,
             Tag::TimedQuote => 9,
             Tag::TwoByteTrade => 10,
+            Tag::FinalDate => 11,
+            Tag::FinalFix => 12,
         }
     }
 }
@@ -61,6 +65,8 @@ impl TryFrom<u8> for Tag {
             8 => Ok(Tag::DayLength),
             9 => Ok(Tag::TimedQuote),
             10 => Ok(Tag::TwoByteTrade),
+            11 => Ok(Tag::FinalDate),
+            12 => Ok(Tag::FinalFix),
             _ => Err(UnknownTag(byte)),
         }
     }
@@ -82,6 +88,8 @@ impl Tag {
             Tag::DayLength => 2,
             Tag::TimedQuote => 10,
             Tag::TwoByteTrade => 13,
+            Tag::FinalDate => 3,
+            Tag::FinalFix => 4,
         }
     }
 }

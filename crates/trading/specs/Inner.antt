@@ -1,12 +1,12 @@
 -- What the functions of this crate require, which a book within its limits has, and what a trade comes to. A reader of the promises can skip this file.
 use mathlib.Core.{Bool.cond, Path.◌≡◌}
-use Rattle.std.specs.Prelude.{ℕ, ◌+◌, ◌*◌, ◌<◌, ◌^◌, Option, Result}
+use Rattle.std.specs.Prelude.{ℕ, ◌+◌, ◌*◌, ◌<◌, ◌^◌, Result}
 use lib.Dec.{eqb}
 use Rattle.prices.specs.Price.{largest_price}
 use Rattle.calls.specs.declared.Call.TheVariants as call
 use Rattle.calls.specs.{declared.Trade.Trade, Trade.most_quantity}
 use Rattle.refusals.specs.{declared.Refusal.Refusal, Refusals.first_met, Refusals.number_of}
-use Rattle.figures.specs.{declared.Figures.Figures, declared.Fixing.Fixing, Figures.outcome_of}
+use Rattle.figures.specs.{declared.Figures.Figures, declared.Found.Found, Figures.outcome_of}
 use Rattle.outcomes.specs.{Effects.figures_after, Outcome.outcome_by}
 use Rattle.columns.specs.declared.Columns.{Columns}
 use Rattle.counterparties.specs.Inner.{most_entry, Exchangeable, Countable}
@@ -36,6 +36,6 @@ pub record SetTradeAnswered (n : ℕ) (f : Figures) (c : Columns) (t : Trade) (r
   pub columns : c' ≡ cond (eqb (number_of r) 0) (traded_columns c t) c
 
 -- what a trade comes to, and the columns after it, which a refused one leaves
-pub record TradeAnswered (n : ℕ) (f : Figures) (c : Columns) (t : Trade) (r : Result (Option Fixing) Refusal) (f' : Figures) (c' : Columns) : Type 0 where
+pub record TradeAnswered (n : ℕ) (f : Figures) (c : Columns) (t : Trade) (r : Result Found Refusal) (f' : Figures) (c' : Columns) : Type 0 where
   pub outcome : outcome_of r f' ≡ outcome_by (trade_refusal n f c t) f (call.Trade t)
   pub columns : c' ≡ cond (eqb (number_of r) 0) (traded_columns c t) c

@@ -14,7 +14,7 @@ use calls::Trade;
 use columns::Columns;
 use counterparties::effects::{count, exchange};
 use counterparties::limits::{are_accounts, position_stays, volume_stays};
-use figures::{Figures, Outcome};
+use figures::{Figures, Found, Outcome};
 use refusals::Refusal;
 
 // The refusal of a trade, by its values and then by its accounts.
@@ -22,7 +22,7 @@ fn test(figures: &Figures, columns: &Columns, t: Trade) -> Result<(), Refusal>
     requires { Exchangeable columns.now.position t most_position × Countable columns.now.volume t }
     ensures { number_of result ≡ trade_refusal accounts figures.now columns.now t }
 {
-    refusals::trade(figures.closed, figures.halted, t)?;
+    refusals::trade(figures.is_over(), figures.halted, t)?;
     Refusal::Account.when(!are_accounts(t))?;
     Refusal::Volume.when(!volume_stays(&columns.volume, t))?;
     Refusal::Position.when(!position_stays(&columns.position, t))
@@ -55,7 +55,7 @@ pub fn trade(figures: &mut Figures, columns: &mut Columns, t: Trade) -> Outcome
 {
     test(figures, columns, t)?;
     traded(figures, columns, t);
-    Ok(None)
+    Ok(Found::Nothing)
 }
 
 // Any trade of a set likewise. The limits of its accounts are looked at after the last one.
