@@ -31,6 +31,8 @@ trade_or (call.Fix set) = other (λ A f o. refl)
 trade_or call.Close = other (λ A f o. refl)
 trade_or (call.DayLength l) = other (λ A f o. refl)
 trade_or (call.TimedQuote q) = other (λ A f o. refl)
+trade_or (call.FinalDate m) = other (λ A f o. refl)
+trade_or (call.FinalFix v) = other (λ A f o. refl)
 
 pub fix_or : (c : Call) → FixOr c
 fix_or (call.Quote m) = other (λ A f o. refl)
@@ -42,6 +44,8 @@ fix_or (call.Fix set) = fix set refl
 fix_or call.Close = other (λ A f o. refl)
 fix_or (call.DayLength l) = other (λ A f o. refl)
 fix_or (call.TimedQuote q) = other (λ A f o. refl)
+fix_or (call.FinalDate m) = other (λ A f o. refl)
+fix_or (call.FinalFix v) = other (λ A f o. refl)
 
 pub close_or : (c : Call) → CloseOr c
 close_or (call.Quote m) = other (λ A x o. refl)
@@ -53,6 +57,8 @@ close_or (call.Fix set) = other (λ A x o. refl)
 close_or call.Close = close refl
 close_or (call.DayLength l) = other (λ A x o. refl)
 close_or (call.TimedQuote q) = other (λ A x o. refl)
+close_or (call.FinalDate m) = other (λ A x o. refl)
+close_or (call.FinalFix v) = other (λ A x o. refl)
 
 module _ {A : Type 0} (P : A → Type 0) where
   pub on_trade_is : (f : Trade → A) (o : A) (c : Call) → ((t : Trade) → c ≡ call.Trade t → P (f t)) → P o → P (on_trade f o c)

@@ -28,7 +28,17 @@ posted_columns n f c = record {
 abbrev pub positions_left : ℕ → Figures → List ℤ → List ℤ
 positions_left n f position = cond (is_final_date f.day) (replicate n (pos 0)) position
 
--- 01: "present positions become opening ones, … and the day's figures (… v, cost …) … start empty"
+-- 01: "present positions become opening ones"
+abbrev pub carried_columns : ℕ → Figures → Columns → Columns
+carried_columns n f c = record {
+  opening = positions_left n f c.position;
+  position = positions_left n f c.position;
+  cost = c.cost;
+  volume = c.volume;
+  cash = c.cash;
+}
+
+-- "… and the day's figures (… v, cost …) … start empty"
 abbrev pub closed_columns : ℕ → Figures → Columns → Columns
 closed_columns n f c = record {
   opening = positions_left n f c.position;

@@ -4,7 +4,7 @@
 
 ghost use Rattle.std.specs.Prelude.{◌≡◌};
 ghost use Rattle.columns.specs.Columns.{accounts};
-ghost use Rattle.closing.specs.Closing.{posted_columns};
+ghost use Rattle.closing.specs.Closing.{posted_columns, carried_columns};
 ghost use Rattle.closing.specs.Closing.{posting as Closing·posting};
 ghost use Rattle.closing.specs.Inner.{Postable, Closable, CloseAnswered};
 
@@ -40,17 +40,24 @@ fn post(figures: &Figures, columns: &mut Columns)
     }
 }
 
+// The present positions become the opening ones. At the end of the contract they are cleared first.
+fn carry(figures: &Figures, columns: &mut Columns)
+    ensures { columns.new ≡ carried_columns accounts figures.now columns.old }
+{
+    if figures.day.is_final_date() {
+        columns.position = [0; ACCOUNTS];
+    }
+    columns.opening = columns.position;
+}
+
 // Any close: a refusal, which leaves figures and columns as they are, or both changed.
 pub fn close(figures: &mut Figures, columns: &mut Columns) -> Outcome
     requires { Closable figures.old columns.old }
     ensures { CloseAnswered accounts figures.old columns.old result figures.new columns.new }
 {
-    refusals::close(figures.is_over() | (figures.day.fixed.price == 0))?;
+    refusals::close((figures.day.fixed.price == 0) | figures.is_over())?;
     post(figures, columns);
-    if figures.day.is_final_date() {
-        columns.position = [0; ACCOUNTS];
-    }
-    columns.opening = columns.position;
+    carry(figures, columns);
     columns.cost = [0; ACCOUNTS];
     columns.volume = [0; ACCOUNTS];
     closed_day(figures);

@@ -10,8 +10,9 @@ use Rattle.calls.specs.Calls.{on_trade}
 use Rattle.calls.specs.declared.Trade.{Trade}
 use Rattle.calls.specs.declared.Call.{Call}
 use Rattle.calls.proofs.Calls.{on_trade_is}
-use Rattle.refusals.specs.Refusals.{Accounts, no_accounts, is_full}
+use Rattle.refusals.specs.Refusals.{Accounts, no_accounts}
 use Rattle.refusals.proofs.Passed.{unmet}
+use Rattle.figures.specs.Figures.{is_over}
 use Rattle.figures.proofs.Held.{HeldFigures}
 use Rattle.outcomes.proofs.Passed.{PassedFigures}
 use Rattle.counterparties.specs.Counterparties.{are_accounts}
@@ -39,9 +40,9 @@ allowed_call n b c p =
     record {
       figures = (held n b p.limits).figures;
       sentences = record {
-        full = s.full;
         day = s.day;
         halt = s.halt;
+        month = s.month;
         field = s.field;
         time = s.time;
         market = s.market;
@@ -52,15 +53,15 @@ allowed_call n b c p =
       };
     }
 
-pub allowed_trade : (n : ℕ) (b : Book) (t : Trade) → Interim n b → is_full b.figures.closed ≡ false → b.figures.halted ≡ false → Passes n t → Allowed n b (call.Trade t)
-allowed_trade n b t i full halted p =
+pub allowed_trade : (n : ℕ) (b : Book) (t : Trade) → Interim n b → is_over b.figures ≡ false → b.figures.halted ≡ false → Passes n t → Allowed n b (call.Trade t)
+allowed_trade n b t i over halted p =
     let u = unmet (own_sentences n t) refl p in
     record {
       figures = i.figures;
       sentences = record {
-        full = full;
-        day = refl;
+        day = over;
         halt = halted;
+        month = refl;
         field = u 0;
         time = refl;
         market = refl;

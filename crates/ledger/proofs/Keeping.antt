@@ -72,6 +72,8 @@ module _ (n : ℕ) (b : Book) (h : Held n b) where
       by call.Close p f = record { figures = f; account = closed_account n b h; final = no_trades-held _ }
       by (call.DayLength l) p f = same_accounts (figures_after b.figures (call.DayLength l)) f refl refl
       by (call.TimedQuote q) p f = same_accounts (figures_after b.figures (call.TimedQuote q)) f refl refl
+      by (call.FinalDate m) p f = same_accounts (figures_after b.figures (call.FinalDate m)) f refl refl
+      by (call.FinalFix v) p f = same_accounts (figures_after b.figures (call.FinalFix v)) f refl refl
 
 pub limits_kept : LimitsKept
 limits_kept n b c s r = let p = passed n b c r in holds n (effect n b c) (kept n b (held n b p.limits) c s p)

@@ -36,11 +36,11 @@ use Rattle.ledger.specs.Refusals.{sentences_of, refusal}
 use Rattle.ledger.specs.Step.{Answered, answer_of, answer_by, step}
 use Rattle.ledger.specs.Inner.{WithinLimits}
 use Rattle.figures.specs.declared.Figures.{Figures}
-use Rattle.figures.specs.declared.Fixing.{Fixing}
+use Rattle.figures.specs.declared.Found.{Found}
 use Rattle.figures.specs.Figures.{Outcome, outcome_of, figures_hold}
 use Rattle.columns.specs.declared.Columns.{Columns}
 use Rattle.refusals.specs.declared.Refusal.{Refusal}
-use Rattle.std.specs.Prelude.{Option, Result}
+use Rattle.std.specs.Prelude.{Result}
 use Rattle.ledger.specs.declared.Book.{Book}
 use Rattle.ledger.proofs.Held.{Held, held, contracts_most}
 
@@ -49,7 +49,7 @@ at_any : {A : Type 0} (l : List A) (j : ℕ) (zero : A) (P : A → Type 0) → P
 at_any l j zero P past inside = ⊎_elim inside (λ h. subst P (sym (get_or_past l j zero h)) past) (cases_lt j (length l))
 
 abbrev Called : Type 0
-Called = Result (Option Fixing) Refusal
+Called = Result Found Refusal
 
 module _ (b : Book) (w : WithinLimits accounts b) where
   holds : Held accounts b
@@ -105,7 +105,7 @@ step_within n b c w = rw w.within
 
 -- the answer of an outcome, with these columns
 abbrev with_columns : Columns → Outcome → Answered
-with_columns columns o = record { code = o.code; fixing = o.fixing; book = record { figures = o.figures; columns = columns } }
+with_columns columns o = record { code = o.code; fixing = o.fixing; friday = o.friday; book = record { figures = o.figures; columns = columns } }
 
 through : (t : Bool) (f g : Figures) (c d : Columns) → ◌≡◌ {A = Book} (record { figures = cond t f g; columns = cond t c d }) (cond t (record { figures = f; columns = c }) (record { figures = g; columns = d }))
 through true f g c d = refl

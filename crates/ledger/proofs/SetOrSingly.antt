@@ -7,7 +7,6 @@ use mathlib.Core.List.{List, [], ◌∷◌, ◌++◌}
 use Prim.Native.Nat.{ℕ}
 use lib.Dec.{eqb}
 use Rattle.std.specs.Prelude.{Option, None}
-use Rattle.std.proofs.Math.Bool.{or-false}
 use Rattle.figures.specs.declared.Fixing.{Fixing}
 use Rattle.outcomes.specs.Effects.{fixing_of}
 use Rattle.counterparties.proofs.Present.{in_range}
@@ -73,7 +72,7 @@ singly_then_set n b [] s few a = absurd (true≢false (sym few))
 singly_then_set n b (t ∷ ts) s few a =
     let p = passed n b (call.Trade t) a.0 in
     let h = still_held n b (t ∷ ts) s (held n b p.limits) a in
-    by_passed n b (t ∷ ts) p.limits p.sentences.full p.sentences.halt few (each_passes n b (t ∷ ts) a) (volumes_of h) (positions_of h)
+    by_passed n b (t ∷ ts) p.limits p.sentences.day p.sentences.halt few (each_passes n b (t ∷ ts) a) (volumes_of h) (positions_of h)
 
 -- ---- one trade
 
@@ -81,18 +80,20 @@ module _ (n : ℕ) (b : Book) (t : Trade) where
   same_number : (w m : Bool) → within_limits n b ≡ w → are_accounts n t ≡ m → set_refusal n b (t ∷ []) ≡ refusal n b (call.Trade t)
   unfolding set_refusal refusal trade_sentences set_effect effect
   same_number false m limits range = rw limits
-  same_number true false limits range = rw (limits, range, or-false)
+  same_number true false limits range = rw (limits, range)
   same_number true true limits range =
       let h = held n b limits in
       let accounts = in_range n t (ap not range) in
-      rw (limits, range, or-false, volumes_after n b t h accounts, positions_after n b t h accounts)
+      rw (limits, range, volumes_after n b t h accounts, positions_after n b t h accounts)
 
-  no_fixing : (x : Bool) → ◌≡◌ {A = Option Fixing} None (cond x None None)
-  no_fixing true = refl
-  no_fixing false = refl
+  -- a trade finds nothing, accepted or not
+  either_way : {A : Type 0} (x : Bool) (nothing : A) → nothing ≡ cond x nothing nothing
+  either_way true nothing = refl
+  either_way false nothing = refl
 
 pub set_of_one : SetOfOne
 unfolding trade_set step set_effect fixing_of
 set_of_one n b t =
     let e = same_number n b t (within_limits n b) (are_accounts n t) refl refl in
-    rw (e, ← no_fixing n b t (eqb (refusal n b (call.Trade t)) 0))
+    let accepted = eqb (refusal n b (call.Trade t)) 0 in
+    rw (e, ← either_way n b t {A = Option Fixing} accepted None, ← either_way n b t {A = ℕ} accepted 0)

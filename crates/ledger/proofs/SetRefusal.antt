@@ -17,10 +17,11 @@ use Rattle.integers.proofs.Tests.{tests, each}
 use Rattle.calls.specs.Trade.{most_trades, is_set_length}
 use Rattle.calls.specs.declared.Trade.{Trade}
 use Rattle.refusals.specs.declared.Refusal.{Refusal}
-use Rattle.refusals.specs.Refusals.{first_met, is_full, number}
+use Rattle.refusals.specs.Refusals.{first_met, number}
 use Rattle.refusals.proofs.Numbers.{not_zero}
 use Rattle.refusals.specs.Sets.{set_sentences}
 use Rattle.refusals.proofs.Passed.{is_none, unmet, never_met, first_of_both, none_of_both}
+use Rattle.figures.specs.Figures.{is_over}
 use Rattle.columns.specs.Limits.{volumes_hold, positions_hold}
 use Rattle.trading.specs.Trading.{own_sentences}
 use Rattle.trading.specs.Inner.{Passes}
@@ -68,7 +69,7 @@ module _ (n : ℕ) (b : Book) (ts : List Trade) where
   -- what is known of a set that is not refused as a whole
   pub record Opened : Type 0 where
     pub limits : within_limits n b ≡ true
-    pub closed : is_full b.figures.closed ≡ false
+    pub over : is_over b.figures ≡ false
     pub halted : b.figures.halted ≡ false
     pub few : length ts ≤ most_trades
 
@@ -78,7 +79,7 @@ module _ (n : ℕ) (b : Book) (ts : List Trade) where
       let trades = each (not (eqb (length ts) 0)) (leb (length ts) most_trades ∷ []) (not-false (is_set_length (length ts)) (u 3)) in
       record {
         limits = not-false (within_limits n b) (u 0);
-        closed = u 1;
+        over = u 1;
         halted = u 2;
         few = omega (tests, trades 1);
       }
@@ -124,8 +125,8 @@ unfolding set_refusal
 within_passes_set n b ts w h =
     let c = (set_effect n b ts).columns in
     let rest = trade_sentences n ts ++ sentences_after_trades n c in
-    never_met 2 (set_sentences b.figures.closed b.figures.halted (length ts) ++ rest)
-    (none_of_both 2 (set_sentences b.figures.closed b.figures.halted (length ts)) rest refl (none_of_both 2 (trade_sentences n ts) (sentences_after_trades n c) (no_trade_gives 2 n ts (λ t. refl)) refl))
+    never_met 2 (set_sentences (is_over b.figures) b.figures.halted (length ts) ++ rest)
+    (none_of_both 2 (set_sentences (is_over b.figures) b.figures.halted (length ts)) rest refl (none_of_both 2 (trade_sentences n ts) (sentences_after_trades n c) (no_trade_gives 2 n ts (λ t. refl)) refl))
     (rw w at h)
 
 -- ---- and back
@@ -135,7 +136,7 @@ unfolding trade_sentences
 none_of_trades n [] p = refl
 none_of_trades n (t ∷ ts) p = first_of_both (own_sentences n t) (trade_sentences n ts) refl ∙ rw (p.0, none_of_trades n ts p.1)
 
-pub by_passed : (n : ℕ) (b : Book) (ts : List Trade) → within_limits n b ≡ true → is_full b.figures.closed ≡ false → b.figures.halted ≡ false → is_set_length (length ts) ≡ true
+pub by_passed : (n : ℕ) (b : Book) (ts : List Trade) → within_limits n b ≡ true → is_over b.figures ≡ false → b.figures.halted ≡ false → is_set_length (length ts) ≡ true
     → Every (Passes n) ts → volumes_hold n (set_effect n b ts).columns.volume ≡ true → positions_hold n (set_effect n b ts).columns.position ≡ true
     → set_refusal n b ts ≡ 0
-by_passed n b ts limits full halted few own volumes positions = by_parts n b ts ∙ rw (volumes, positions, limits, full, halted, few, none_of_trades n ts own)
+by_passed n b ts limits over halted few own volumes positions = by_parts n b ts ∙ rw (volumes, positions, limits, over, halted, few, none_of_trades n ts own)

@@ -2,7 +2,12 @@
 -- Assumes nothing.
 use mathlib.Core.List.{List, [], ◌∷◌}
 use Prim.Native.Nat.{ℕ}
-use lib.ListN.{length-set, length-replicate, set}
+use mathlib.Core.Path.{◌≡◌}
+use lib.IntN.{ℤ}
+use lib.ListN.{length, length-set, length-replicate, set}
+use Rattle.std.proofs.lemmas.Bool.{cond_both}
+use Rattle.day.specs.Day.{is_final_date}
+use Rattle.closing.specs.Closing.{positions_left}
 use Rattle.calls.specs.declared.Call.TheVariants as call
 use Rattle.calls.specs.declared.Trade.{Trade}
 use Rattle.calls.specs.declared.Call.{Call}
@@ -22,6 +27,9 @@ fresh_shaped n s =
 same_columns : (n : ℕ) (b : Book) (f : Figures) → Shaped n b → Shaped n (with_figures b f)
 same_columns n b f s = record { opening = s.opening; position = s.position; cost = s.cost; volume = s.volume; cash = s.cash }
 
+left_length : (n : ℕ) (f : Figures) (position : List ℤ) → length position ≡ n → length (positions_left n f position) ≡ n
+left_length n f position h = cond_both (is_final_date f.day) _ _ (λ p. length p ≡ n) (λ e. length-replicate n _) (λ e. h)
+
 pub shape_kept : (n : ℕ) (b : Book) (c : Call) → Shaped n b → Shaped n (effect n b c)
 unfolding effect
 shape_kept n b (call.Quote m) s = same_columns n b (figures_after b.figures (call.Quote m)) s
@@ -32,9 +40,12 @@ shape_kept n b call.Resume s = same_columns n b (figures_after b.figures call.Re
 shape_kept n b (call.MinuteEnd u) s = same_columns n b (figures_after b.figures (call.MinuteEnd u)) s
 shape_kept n b (call.Fix set) s = same_columns n b (figures_after b.figures (call.Fix set)) s
 shape_kept n b call.Close s =
-    record { opening = s.position; position = s.position; cost = length-replicate n _; volume = length-replicate n _; cash = table_length n _ }
+    let left = left_length n b.figures b.columns.position s.position in
+    record { opening = left; position = left; cost = length-replicate n _; volume = length-replicate n _; cash = table_length n _ }
 shape_kept n b (call.DayLength l) s = same_columns n b (figures_after b.figures (call.DayLength l)) s
 shape_kept n b (call.TimedQuote q) s = same_columns n b (figures_after b.figures (call.TimedQuote q)) s
+shape_kept n b (call.FinalDate m) s = same_columns n b (figures_after b.figures (call.FinalDate m)) s
+shape_kept n b (call.FinalFix v) s = same_columns n b (figures_after b.figures (call.FinalFix v)) s
 
 pub shape_kept_by_set : (n : ℕ) (b : Book) (ts : List Trade) → Shaped n b → Shaped n (set_effect n b ts)
 unfolding set_effect

@@ -1,5 +1,6 @@
 -- What is known of a call on figures that no refusal meets.
 --     passed_figures     none of the sentences is met
+--     passed_day         the two parts of sentence 3
 --     passed_time        the time of a timed quote
 -- Assumes nothing.
 use mathlib.Core.Path.{◌≡◌}
@@ -15,15 +16,21 @@ use Rattle.calls.specs.Time.{most_time}
 use Rattle.calls.specs.Calls.{on_fix}
 use Rattle.refusals.specs.Refusals.{Accounts, sides_outside, first_met}
 use Rattle.refusals.proofs.Passed.{Passed, passed}
+use Rattle.std.proofs.lemmas.Bool.{or_parts}
 use Rattle.figures.specs.declared.Figures.{Figures}
+use Rattle.figures.specs.Figures.{is_over}
 use Rattle.figures.specs.Fixing.{fix_price}
-use Rattle.outcomes.specs.Outcome.{day_forbids, sentences_on}
+use Rattle.outcomes.specs.Outcome.{day_forbids, forbids, sentences_on}
 
 abbrev pub PassedFigures : Figures → Call → Accounts → Type 0
-PassedFigures f c a = Passed f.closed (day_forbids f.day c) f.halted f.day.timing.latest (on_fix (fix_price f) 0 c) c a
+PassedFigures f c a = Passed (forbids f c) f.halted f.day.timing.latest (on_fix (fix_price f) 0 c) c a
 
 pub passed_figures : (f : Figures) (c : Call) (a : Accounts) → first_met (sentences_on f c a) ≡ 0 → PassedFigures f c a
-passed_figures f c a h = passed f.closed (day_forbids f.day c) f.halted f.day.timing.latest (on_fix (fix_price f) 0 c) c a h
+passed_figures f c a h = passed (forbids f c) f.halted f.day.timing.latest (on_fix (fix_price f) 0 c) c a h
+
+-- the day allows the call, and the book is not over
+pub passed_day : (f : Figures) (c : Call) (a : Accounts) → PassedFigures f c a → (day_forbids f.day c ≡ false) × (is_over f ≡ false)
+passed_day f c a p = or_parts (day_forbids f.day c) (is_over f) p.day
 
 pub record PassedTime (latest : ℕ) (q : TimedQuote) : Type 0 where
   pub forward : latest ≤ q.time

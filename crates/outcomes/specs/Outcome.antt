@@ -18,7 +18,7 @@ day_forbids d c =
 
 -- 3: "The day doesn't allow the call"
 abbrev pub forbids : Figures → Call → Bool
-forbids f c = is_over f || day_forbids f.day c
+forbids f c = day_forbids f.day c || is_over f
 
 -- the sentences of a call on these figures, where its accounts say so much
 abbrev pub sentences_on : Figures → Call → Accounts → List (ℕ × Bool)

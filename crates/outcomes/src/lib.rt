@@ -79,7 +79,7 @@ pub fn resume(figures: &mut Figures) -> Outcome
 pub fn day_length(figures: &mut Figures, minutes: u32) -> Outcome
     ensures { outcome_of result figures.new ≡ outcome figures.old (Call.DayLength minutes) }
 {
-    refusals::day_length(figures.is_over() | figures.day.session.begun, minutes)?;
+    refusals::day_length(figures.day.session.begun | figures.is_over(), minutes)?;
     figures.day.session.length = minutes;
     begin(figures);
     Ok(Found::Nothing)
@@ -91,7 +91,7 @@ pub fn minute_end(figures: &mut Figures, index: u32) -> Outcome
     ensures { outcome_of result figures.new ≡ outcome figures.old (Call.MinuteEnd index) }
 {
     let day = figures.day;
-    refusals::minute_end(figures.is_over() | day.forbids_minute_end(), index)?;
+    refusals::minute_end(day.forbids_minute_end() | figures.is_over(), index)?;
     let valid = day
         .markets
         .minute
@@ -107,7 +107,7 @@ pub fn fix(figures: &mut Figures, set: u32) -> Outcome
 {
     let day = figures.day;
     let fixing = figures.fixing(set);
-    refusals::fix(figures.is_over() | day.forbids_fix(), set, fixing.price)?;
+    refusals::fix(day.forbids_fix() | figures.is_over(), set, fixing.price)?;
     let Fixing { price, amount, .. } = fixing;
     figures.day.fixed = Fixed { price, amount };
     Ok(Found::Fixing(fixing))
@@ -117,7 +117,7 @@ pub fn fix(figures: &mut Figures, set: u32) -> Outcome
 pub fn final_date(figures: &mut Figures, month: Month) -> Outcome
     ensures { outcome_of result figures.new ≡ outcome figures.old (Call.FinalDate month) }
 {
-    refusals::final_date(figures.is_over() | figures.day.session.begun, month)?;
+    refusals::final_date(figures.day.session.begun | figures.is_over(), month)?;
     figures.day.session.length = FINAL_DAY;
     begin(figures);
     Ok(Found::Friday(month.last_friday()))
@@ -129,7 +129,7 @@ pub fn final_fix(figures: &mut Figures, value: u32) -> Outcome
     ensures { outcome_of result figures.new ≡ outcome figures.old (Call.FinalFix value) }
 {
     let day = figures.day;
-    refusals::final_fix(figures.is_over() | day.forbids_final_fix(), value)?;
+    refusals::final_fix(day.forbids_final_fix() | figures.is_over(), value)?;
     let fixing = figures.final_fixing(value);
     let Fixing { price, amount, .. } = fixing;
     figures.day.fixed = Fixed { price, amount };

@@ -23,6 +23,7 @@ not_zero refusal.Lists = refl
 not_zero refusal.Time = refl
 not_zero refusal.Account = refl
 not_zero refusal.SetLength = refl
+not_zero refusal.Month = refl
 
 pub is_zero : {A : Type 0} (r : Result A Refusal) → nat_eq (number_of r) 0 ≡ is_ok r
 is_zero (Ok a) = refl
@@ -42,7 +43,8 @@ by_number n =
     (cond (nat_eq n 9) refusal.Unpriced
     (cond (nat_eq n 10) refusal.Lists
     (cond (nat_eq n 11) refusal.Time
-    (cond (nat_eq n 12) refusal.Account refusal.SetLength)))))))))))
+    (cond (nat_eq n 12) refusal.Account
+    (cond (nat_eq n 13) refusal.SetLength refusal.Month))))))))))))
 
 its_own : (r : Refusal) → by_number (number r) ≡ r
 unfolding by_number
@@ -59,6 +61,7 @@ its_own refusal.Lists = refl
 its_own refusal.Time = refl
 its_own refusal.Account = refl
 its_own refusal.SetLength = refl
+its_own refusal.Month = refl
 
 pub own_numbers : OwnNumbers
 own_numbers r s e = sym (its_own r) ∙ ap by_number e ∙ its_own s

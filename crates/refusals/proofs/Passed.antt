@@ -10,10 +10,10 @@ use mathlib.Core.List.{List, [], ◌∷◌, ◌++◌}
 use Prim.Native.Nat.{ℕ, zero, suc}
 use lib.Dec.{eqb}
 use borrow.Author.Tests.{eq-eqb, not-true}
-use Rattle.std.proofs.lemmas.Bool.{and_parts, or_parts}
+use Rattle.std.proofs.lemmas.Bool.{and_parts}
 use Rattle.integers.proofs.Tests.{◌and◌}
 use Rattle.calls.specs.declared.Call.{Call}
-use Rattle.refusals.specs.Refusals.{is_full, halt_forbids, outside_field, runs_back, crossed, unpriced, Accounts, sentences, first_met}
+use Rattle.refusals.specs.Refusals.{halt_forbids, outside_table, outside_field, runs_back, crossed, unpriced, Accounts, sentences, first_met}
 
 -- whether the sentence at a place of a list is met
 abbrev pub met_at : List (ℕ × Bool) → ℕ → Bool
@@ -43,10 +43,10 @@ never_met number ((m, false) ∷ rest) none h =
     let start = and_parts (not (eqb 0 number)) (not (eqb m number) && is_none number rest) none in
     never_met number rest (rw (start.0, (and_parts (not (eqb m number)) (is_none number rest) start.1).1)) h
 
-pub record Passed (closed : ℕ) (forbidden halted : Bool) (latest found : ℕ) (c : Call) (a : Accounts) : Type 0 where
-  pub full : is_full closed ≡ false
+pub record Passed (forbidden halted : Bool) (latest found : ℕ) (c : Call) (a : Accounts) : Type 0 where
   pub day : forbidden ≡ false
   pub halt : halt_forbids halted c ≡ false
+  pub month : outside_table c ≡ false
   pub field : outside_field c ≡ false
   pub time : runs_back latest c ≡ false
   pub market : crossed c ≡ false
@@ -55,13 +55,10 @@ pub record Passed (closed : ℕ) (forbidden halted : Bool) (latest found : ℕ) 
   pub position : a.position ≡ false
   pub price : unpriced found c ≡ false
 
-pub passed : (closed : ℕ) (forbidden halted : Bool) (latest price : ℕ) (c : Call) (a : Accounts)
-    → first_met (sentences closed forbidden halted latest price c a) ≡ 0
-    → Passed closed forbidden halted latest price c a
-passed closed forbidden halted latest price c a h =
-    let u = unmet (sentences closed forbidden halted latest price c a) refl h in
-    let days = or_parts (is_full closed) forbidden (u 0) in
-    record { full = days.0; day = days.1; halt = u 1; field = u 2; time = u 3; market = u 4; accounts = u 5; volume = u 6; position = u 7; price = u 8 }
+pub passed : (forbidden halted : Bool) (latest price : ℕ) (c : Call) (a : Accounts) → first_met (sentences forbidden halted latest price c a) ≡ 0 → Passed forbidden halted latest price c a
+passed forbidden halted latest price c a h =
+    let u = unmet (sentences forbidden halted latest price c a) refl h in
+    record { day = u 0; halt = u 1; month = u 2; field = u 3; time = u 4; market = u 5; accounts = u 6; volume = u 7; position = u 8; price = u 9 }
 
 -- ---- one list after another
 

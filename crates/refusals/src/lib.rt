@@ -92,15 +92,20 @@ fn timed_quote_outside(quote: TimedQuote) -> bool
 }
 
 pub fn quote(forbidden: bool, halted: bool, market: Market) -> Result<(), Refusal>
-    ensures { number_of result ≡ refusal_by forbidden false halted 0 0 (Call.Quote market) }
+    ensures { number_of result ≡ refusal_by forbidden halted 0 0 (Call.Quote market) }
 {
     first_sentences(forbidden, halted, sides_outside(market))?;
     Refusal::Crossed.when(!market.is_uncrossed())
 }
 
 // The refusal of a timed quote where this is the latest time given in its minute.
-pub fn timed_quote(forbidden: bool, halted: bool, latest: u32, quote: TimedQuote) -> Result<(), Refusal>
-    ensures { number_of result ≡ refusal_by forbidden false halted latest 0 (Call.TimedQuote quote) }
+pub fn timed_quote(
+    forbidden: bool,
+    halted: bool,
+    latest: u32,
+    quote: TimedQuote,
+) -> Result<(), Refusal>
+    ensures { number_of result ≡ refusal_by forbidden halted latest 0 (Call.TimedQuote quote) }
 {
     first_sentences(forbidden, halted, timed_quote_outside(quote))?;
     Refusal::Time.when(quote.time < latest)?;
@@ -108,7 +113,7 @@ pub fn timed_quote(forbidden: bool, halted: bool, latest: u32, quote: TimedQuote
 }
 
 pub fn trade(forbidden: bool, halted: bool, t: Trade) -> Result<(), Refusal>
-    ensures { number_of result ≡ refusal_by forbidden false halted 0 0 (Call.Trade t) }
+    ensures { number_of result ≡ refusal_by forbidden halted 0 0 (Call.Trade t) }
 {
     first_sentences(forbidden, halted, t.is_outside())
 }
@@ -122,13 +127,13 @@ pub fn trade_set(over: bool, halted: bool, trades: usize) -> Result<(), Refusal>
 }
 
 pub fn halt(forbidden: bool, halted: bool) -> Result<(), Refusal>
-    ensures { number_of result ≡ refusal_by forbidden false halted 0 0 Call.Halt }
+    ensures { number_of result ≡ refusal_by forbidden halted 0 0 Call.Halt }
 {
     first_sentences(forbidden, halted, false)
 }
 
 pub fn resume(forbidden: bool, halted: bool) -> Result<(), Refusal>
-    ensures { number_of result ≡ refusal_by forbidden false halted 0 0 Call.Resume }
+    ensures { number_of result ≡ refusal_by forbidden halted 0 0 Call.Resume }
 {
     first_sentences(forbidden, !halted, false)
 }

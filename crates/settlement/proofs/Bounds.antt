@@ -1,10 +1,11 @@
 -- How large a fix's figures get, for the limits of a book.
 --     clamped_size, amount_fits, amount_size   the clamped rate, the product of the amount, the amount
 --     settlement_is_price                      the settlement price
+--     dimes_most, dime_is_price                that of a final date
 -- Assumes nothing.
 use mathlib.Core.Path.{◌≡◌, refl, ap}
 use mathlib.Core.Bool.{true, ◌&&◌}
-use Prim.Native.Nat.{ℕ, ◌+◌, ◌*◌, ◌-◌, ◌<◌, ◌≤◌, ◌^◌}
+use Prim.Native.Nat.{ℕ, ◌+◌, ◌*◌, ◌-◌, ◌/◌, ◌<◌, ◌≤◌, ◌^◌}
 use native.Mathlib.Nat.{mul-le-mul}
 use native.Mathlib.Omega.{arith}
 use lib.Dec.{eqb}
@@ -20,12 +21,12 @@ use Rattle.integers.proofs.Rounding.{rounded_le, nearest_le, nearest_ge}
 use Rattle.std.proofs.lemmas.Bool.{and_parts, cond_both}
 use Rattle.std.proofs.lemmas.Int.{unsigned_abs-mul}
 use Rattle.prices.specs.Price.{least_price, largest_price, is_price, is_present, none_or_price}
-use Rattle.prices.proofs.Prices.{price_by, none_or_price-price, PriceSum}
+use Rattle.prices.proofs.Prices.{price_by, price_to, none_or_price-price, PriceSum}
 use Rattle.funding.specs.declared.Terms.{Terms}
 use Rattle.settlement.specs.declared.FinalMinute.{FinalMinute}
 use Rattle.settlement.specs.declared.Midpoints.{Midpoints}
 use Rattle.settlement.specs.declared.Previous.{Previous}
-use Rattle.settlement.specs.Fixing.{clamped_to, amount_of, index_price, settlement_price}
+use Rattle.settlement.specs.Fixing.{clamped_to, amount_of, index_price, settlement_price, dime, dime_price}
 
 -- a clamped rate is within what both sides of the clamp are within
 pub clamped_size : (t : Terms) (r : ℤ) (n : ℕ) → t.below ≤ n → t.above ≤ n → nat_abs (clamped_to t r) ≤ n
@@ -80,3 +81,12 @@ settlement_is_price set traded midpoints index previous hs t m =
     (λ g. cond_both (is_present midpoints.total) _ _ (λ p. none_or_price p ≡ true)
     (average_is_price midpoints.total midpoints.sum m)
     (λ g. index_is_price index previous)))
+
+-- the limits of a price are whole dimes, and so the dimes of a price are within them
+pub dimes_most : (value : ℕ) → value ≤ largest_price → nearest Even value dime ≤ largest_price / dime
+dimes_most value h = nearest_le Even value dime (largest_price / dime) (omega arith) (omega (arith, h))
+
+pub dime_is_price : (value : ℕ) → is_price value ≡ true → is_price (dime_price value) ≡ true
+dime_is_price value h =
+    let p = price_to value h in
+    price_by (dime_price value) (omega (arith, nearest_ge Even value dime (least_price / dime) (omega arith) (omega (arith, p.0)))) (omega (arith, dimes_most value p.1))

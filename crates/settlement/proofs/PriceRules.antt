@@ -1,7 +1,7 @@
 -- The records of specs/PriceRules.antt, by computing. Assumes nothing.
 use mathlib.Core.Path.{refl}
 use Rattle.integers.specs.Rounding.{nearest}
-use Rattle.settlement.specs.PriceRules.{PriceRules, MidpointRule}
+use Rattle.settlement.specs.PriceRules.{PriceRules, MidpointRule, Dimes}
 
 pub price_rules : PriceRules
 unfolding nearest
@@ -24,3 +24,7 @@ price_rules = record {
 pub midpoint_rule : MidpointRule
 unfolding nearest
 midpoint_rule = record { after_set_price = refl; after_trades = refl; before_index = refl; one_millisecond = refl; midpoint_tie_up = refl; midpoint_tie_down = refl }
+
+pub dimes : Dimes
+unfolding nearest
+dimes = record { whole = refl; below_half = refl; tie_down = refl; above_half = refl; tie_up = refl; below_dime = refl; least = refl; near_largest = refl }

@@ -122,6 +122,6 @@ pub fn dime_price(value: u32) -> u32
     requires { value ≤ largest_price }
     ensures { result ≡ dime_price value }
 {
-    let dimes = integers::half_even(i64::from(value), i64::from(DIME));
-    dimes as u32 * DIME
+    // An average is a quotient, half-even, and so are the dimes of a value.
+    average(u64::from(value), DIME) * DIME
 }

@@ -17,7 +17,7 @@ use Rattle.outcomes.specs.Outcome.{figures_refusal}
 use Rattle.calls.specs.declared.Call.TheVariants as call
 use Rattle.funding.specs.Market.{two_sided, is_valid}
 use Rattle.figures.proofs.Held.{held_figures}
-use Rattle.outcomes.proofs.Passed.{passed_figures}
+use Rattle.outcomes.proofs.Passed.{passed_figures, passed_day}
 use Rattle.day.proofs.Held.{day_most}
 use Rattle.calls.specs.Time.{minute_length}
 use Rattle.day_effects.proofs.Keeping.{accrues}
@@ -42,9 +42,9 @@ minute_ended-requires c =
     let u = c.args.index in
     let k = call.MinuteEnd u in
     let h = held_figures f c.requires in
-    let code : 0 ≡ figures_refusal f k = c.in_ok-minute_end.ensures ∙ rw c.forbids_minute_end.ensures in
+    let code : 0 ≡ figures_refusal f k = c.in_ok-minute_end.ensures ∙ rw (c.forbids_minute_end.ensures, c.is_over.ensures) in
     let p = passed_figures f k no_accounts (sym code) in
-    let before : d.minutes.ended < day_length d = omega (tests, none (leb (day_length d) d.minutes.ended) (is_fixed d ∷ []) p.day 0) in
+    let before : d.minutes.ended < day_length d = omega (tests, none (leb (day_length d) d.minutes.ended) (is_fixed d ∷ []) (passed_day f k no_accounts p).0 0) in
     let valid : c.is_valid-valid.result ≡ true → is_valid (terms_on f) f.halted d.markets.minute u ≡ true = λ e. sym (c.is_valid-valid.ensures ∙ rw c.terms.ensures) ∙ e in
     record {
       ended = omega (arith, day_most d h.day);

@@ -16,6 +16,9 @@ timed_quote-requires c = figures_held _ c.requires
 pub fix-requires : goal.fix-requires
 fix-requires c = fixable _ c.requires
 
+pub final_fix-requires : goal.final_fix-requires
+final_fix-requires c = (fixable _ c.requires).size
+
 pub close-requires : goal.close-requires
 close-requires c = closable _ c.requires
 
@@ -46,6 +49,14 @@ returns-in-DayLength c = on_figures c.requires c.in-DayLength.is _ refl refl c.d
 pub returns-in-TimedQuote : goal.returns-in-TimedQuote
 unfolding effect
 returns-in-TimedQuote c = on_figures c.requires c.in-TimedQuote.is _ refl refl c.timed_quote.ensures
+
+pub returns-in-FinalDate : goal.returns-in-FinalDate
+unfolding effect
+returns-in-FinalDate c = on_figures c.requires c.in-FinalDate.is _ refl refl c.final_date.ensures
+
+pub returns-in-FinalFix : goal.returns-in-FinalFix
+unfolding effect
+returns-in-FinalFix c = on_figures c.requires c.in-FinalFix.is _ refl refl c.final_fix.ensures
 
 pub returns-in-Trade : goal.returns-in-Trade
 returns-in-Trade c = trade-answered c.requires c.in-Trade.is c.trade.ensures

@@ -1,4 +1,4 @@
--- `figures::Figures::fixing` meets its contract: a clamped rate times any price and a size fits 64 bits.
+-- `figures::Figures::fixing_at` meets its contract: a clamped rate times any price and a size fits 64 bits.
 use mathlib.Core.Path.{◌≡◌, ◌∙◌, ap, ap₂}
 use native.Mathlib.Omega.{arith}
 use mir.Syntax.{w32, w64}
@@ -11,8 +11,8 @@ use Rattle.settlement.proofs.Bounds.{amount_fits}
 use Rattle.figures.specs.Fixing.{fix_rate}
 use Rattle.figures.specs.Figures.{tenth}
 use Rattle.figures.proofs.Rates.{rate_size}
-use Rattle.figures.proofs.Figures.fixing.Goals as goal
-use Rattle.figures.proofs.Figures.fixing.Goals.{After-tie}
+use Rattle.figures.proofs.Figures.fixing_at.Goals as goal
+use Rattle.figures.proofs.Figures.fixing_at.Goals.{After-tie}
 
 -- the clamped rate
 rate_is : (c : After-tie) → to_z w64 (of_z w64 c.clamp-clamped.result) ≡ fix_rate c.args.self
@@ -25,5 +25,5 @@ rate_is c =
 pub amount-requires : goal.amount-requires
 amount-requires c =
     let f = c.args.self in
-    let p : Fits w32 c.settlement_price-price.result = search rules in
-    rw (rate_is c) (amount_fits (fix_rate f) _ f.size clamp 4294967295 tenth (rate_size f) (omega (arith, p.fits)) c.requires.size (omega arith) (omega arith))
+    let p : Fits w32 c.args.price = search rules in
+    rw (rate_is c) (amount_fits (fix_rate f) _ f.size clamp 4294967295 tenth (rate_size f) (omega (arith, p.fits)) c.requires (omega arith) (omega arith))
