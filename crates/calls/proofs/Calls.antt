@@ -1,12 +1,12 @@
 -- A call is of one kind, or what is said of that kind alone gives its `other`.
---     trade_or, fix_or, close_or      for trades, fixes and closes
+--     trade_or, fix_or, close_or      for trades, fixes of either kind and closes
 --     on_trade_is, on_close_is        what holds of both results of `on_trade` or `on_close` holds of its result
 -- Assumes nothing.
 use mathlib.Core.Path.{◌≡◌, refl, sym, subst}
 use Prim.Native.Nat.{ℕ}
 use Rattle.calls.specs.declared.Trade.{Trade}
 use Rattle.calls.specs.declared.Call.TheVariants as call
-use Rattle.calls.specs.Calls.{on_trade, on_fix, on_close}
+use Rattle.calls.specs.Calls.{on_trade, on_fix, on_final_fix, on_close}
 use Rattle.calls.specs.declared.Call.{Call}
 
 pub data TradeOr (c : Call) : Type 1 where
@@ -15,7 +15,8 @@ pub data TradeOr (c : Call) : Type 1 where
 
 pub data FixOr (c : Call) : Type 1 where
   fix : (set : ℕ) → c ≡ call.Fix set → FixOr c
-  other : ((A : Type 0) (f : ℕ → A) (o : A) → on_fix f o c ≡ o) → FixOr c
+  final_fix : (v : ℕ) → c ≡ call.FinalFix v → FixOr c
+  other : ((A : Type 0) (f g : ℕ → A) (o : A) → on_fix f (on_final_fix g o c) c ≡ o) → FixOr c
 
 pub data CloseOr (c : Call) : Type 1 where
   close : c ≡ call.Close → CloseOr c
@@ -35,17 +36,17 @@ trade_or (call.FinalDate m) = other (λ A f o. refl)
 trade_or (call.FinalFix v) = other (λ A f o. refl)
 
 pub fix_or : (c : Call) → FixOr c
-fix_or (call.Quote m) = other (λ A f o. refl)
-fix_or (call.Trade t) = other (λ A f o. refl)
-fix_or call.Halt = other (λ A f o. refl)
-fix_or call.Resume = other (λ A f o. refl)
-fix_or (call.MinuteEnd u) = other (λ A f o. refl)
+fix_or (call.Quote m) = other (λ A f g o. refl)
+fix_or (call.Trade t) = other (λ A f g o. refl)
+fix_or call.Halt = other (λ A f g o. refl)
+fix_or call.Resume = other (λ A f g o. refl)
+fix_or (call.MinuteEnd u) = other (λ A f g o. refl)
 fix_or (call.Fix set) = fix set refl
-fix_or call.Close = other (λ A f o. refl)
-fix_or (call.DayLength l) = other (λ A f o. refl)
-fix_or (call.TimedQuote q) = other (λ A f o. refl)
-fix_or (call.FinalDate m) = other (λ A f o. refl)
-fix_or (call.FinalFix v) = other (λ A f o. refl)
+fix_or call.Close = other (λ A f g o. refl)
+fix_or (call.DayLength l) = other (λ A f g o. refl)
+fix_or (call.TimedQuote q) = other (λ A f g o. refl)
+fix_or (call.FinalDate m) = other (λ A f g o. refl)
+fix_or (call.FinalFix v) = final_fix v refl
 
 pub close_or : (c : Call) → CloseOr c
 close_or (call.Quote m) = other (λ A x o. refl)

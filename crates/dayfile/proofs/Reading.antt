@@ -55,6 +55,8 @@ module _ (file : List ℕ) (at : ℕ) where
   byte_read tag.DayLength = refl
   byte_read tag.TimedQuote = refl
   byte_read tag.TwoByteTrade = refl
+  byte_read tag.FinalDate = refl
+  byte_read tag.FinalFix = refl
 
   -- the three tests of a record at a place
   record-tests : (t : Tag) → is_record_at file at t ≡ true → (body_at at + body_length t ≤ length file) × (byte_at file at ≡ byte_of t) × (stated_length file at ≡ body_length t)

@@ -42,17 +42,24 @@ pub record Outcome : Type 0 where
   pub friday : ℕ
   pub figures : Figures
 
+-- the fix and the day of the month in what an accepted call finds
+abbrev pub fixing_found : Found → Option Fixing
+fixing_found found.Nothing = None
+fixing_found (found.Fixing fixing) = Some fixing
+fixing_found (found.Friday day) = None
+
+abbrev pub friday_found : Found → ℕ
+friday_found found.Nothing = 0
+friday_found (found.Fixing fixing) = 0
+friday_found (found.Friday day) = day
+
 -- the outcome that the answer to a call stands for, with the figures after it
 abbrev pub fixing_in : Result Found Refusal → Option Fixing
-fixing_in (Ok found.Nothing) = None
-fixing_in (Ok (found.Fixing fixing)) = Some fixing
-fixing_in (Ok (found.Friday day)) = None
+fixing_in (Ok x) = fixing_found x
 fixing_in (Err r) = None
 
 abbrev pub friday_in : Result Found Refusal → ℕ
-friday_in (Ok found.Nothing) = 0
-friday_in (Ok (found.Fixing fixing)) = 0
-friday_in (Ok (found.Friday day)) = day
+friday_in (Ok x) = friday_found x
 friday_in (Err r) = 0
 
 abbrev pub outcome_of : Result Found Refusal → Figures → Outcome

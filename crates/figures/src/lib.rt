@@ -3,7 +3,7 @@
 
 ghost use Rattle.std.specs.Prelude.{◌≡◌, ◌≤◌};
 ghost use Rattle.prices.specs.Price.{largest_price};
-ghost use Rattle.figures.specs.Figures.{terms_on, tie_on, tenth, fresh_figures, is_over, figures_hold};
+ghost use Rattle.figures.specs.Figures.{terms_on, tie_on, tenth, fresh_figures, is_over, fixing_found, friday_found, figures_hold};
 ghost use Rattle.figures.specs.Fixing.{fixing_at, ordinary_fixing, final_fixing, Fixable};
 
 use day::Day;
@@ -53,6 +53,28 @@ pub enum Found {
 
 // What a call comes to: a refusal, or what it found.
 pub type Outcome = Result<Found, Refusal>;
+
+impl Found {
+    // What a fix found.
+    pub fn fixing(self) -> Option<Fixing>
+        ensures { result ≡ fixing_found self }
+    {
+        match self {
+            Found::Fixing(fixing) => Some(fixing),
+            _ => None,
+        }
+    }
+
+    // The day of the month that a final date prints, 0 for none.
+    pub fn friday(self) -> u8
+        ensures { result ≡ friday_found self }
+    {
+        match self {
+            Found::Friday(day) => day,
+            _ => 0,
+        }
+    }
+}
 
 impl Figures {
     // The figures of a fresh book of this size.

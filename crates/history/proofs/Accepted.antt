@@ -9,7 +9,7 @@ use Rattle.integers.specs.Lists.{Every}
 use Rattle.calls.specs.declared.Call.TheVariants as call
 use Rattle.calls.specs.declared.Trade.{Trade}
 use Rattle.calls.specs.declared.Call.{Call}
-use Rattle.refusals.specs.Refusals.{is_full}
+use Rattle.figures.specs.Figures.{is_over}
 use Rattle.columns.proofs.Accounts.{table_length}
 use Rattle.trading.specs.Inner.{Passes}
 use Rattle.ledger.specs.declared.Book.{Book}
@@ -25,7 +25,7 @@ use Rattle.ledger.proofs.Interim.{Interim, interim}
 use Rattle.ledger.proofs.Allowed.{Allowed, allowed_call, allowed_trade}
 use Rattle.ledger.proofs.SetRefusal.{set_passed}
 use Rattle.ledger.proofs.KeepingTrade.{interim_traded}
-use Rattle.history.specs.History.{History, halted, closings}
+use Rattle.history.specs.History.{History, halted, expired, closings}
 use Rattle.history.proofs.Kept.{book_from, effect_is}
 
 -- each call of the history was allowed by the book of those before it
@@ -53,22 +53,22 @@ one_call n s h c r a =
     record { book_is = effect_is n s h c p; all_allowed = (p, a) }
 
 -- the trades of a set, one by one: what one of them leads to is the book of the history with it
-booked : (n s : ℕ) (h : History) (ts : List Trade) → Interim n (book_from n s h) → is_full (book_from n s h).figures.closed ≡ false → (book_from n s h).figures.halted ≡ false → Every (Passes n) ts
+booked : (n s : ℕ) (h : History) (ts : List Trade) → Interim n (book_from n s h) → is_over (book_from n s h).figures ≡ false → (book_from n s h).figures.halted ≡ false → Every (Passes n) ts
     → AllAllowed n s h → Reached n s h (trade_calls ts) (set_effect n (book_from n s h) ts)
-unfolding set_effect closings halted
-booked n s h [] i full resumed p a = record { book_is = refl; all_allowed = a }
-booked n s h (t ∷ ts) i full resumed p a =
+unfolding set_effect closings halted expired
+booked n s h [] i over resumed p a = record { book_is = refl; all_allowed = a }
+booked n s h (t ∷ ts) i over resumed p a =
     let b = book_from n s h in
-    let allowed = allowed_trade n b t i full resumed p.0 in
+    let allowed = allowed_trade n b t i over resumed p.0 in
     let e = effect_is n s h (call.Trade t) allowed in
     let next = subst (Interim n) e (interim_traded n b t p.0 (shaped_from n s h) i) in
-    let rest = booked n s (call.Trade t ∷ h) ts next full resumed p.1 (allowed, a) in
+    let rest = booked n s (call.Trade t ∷ h) ts next over resumed p.1 (allowed, a) in
     record { book_is = ap (λ (x : Book). set_effect n x ts) e ∙ rest.book_is; all_allowed = rest.all_allowed }
 
 one_set : (n s : ℕ) (h : History) (ts : List Trade) → set_refusal n (book_from n s h) ts ≡ 0 → AllAllowed n s h → Reached n s h (trade_calls ts) (set_effect n (book_from n s h) ts)
 one_set n s h ts r a =
     let p = set_passed n (book_from n s h) ts r in
-    booked n s h ts (interim (held n (book_from n s h) p.opened.limits)) p.opened.closed p.opened.halted p.each a
+    booked n s h ts (interim (held n (book_from n s h) p.opened.limits)) p.opened.over p.opened.halted p.each a
 
 -- by whether it is accepted
 either : (n s : ℕ) (h : History) (number : ℕ) (cs : List Call) (b : Book) → (number ≡ 0 → Reached n s h cs b) → AllAllowed n s h

@@ -1,30 +1,30 @@
 -- The book of a history, and that an accepted call leads from the book of h to the book of c ∷ h. Assumes nothing.
 use mathlib.Core.Path.{◌≡◌, refl, sym, ◌∙◌, ap}
-use mathlib.Core.Bool.{Bool, true, false, cond}
+use mathlib.Core.Bool.{Bool, true, false, cond, ◌||◌, true≢false}
 use mathlib.Core.List.{List, [], ◌∷◌}
 use Prim.Native.Nat.{ℕ, ◌+◌, ◌*◌, ◌<◌, ◌≤◌}
 use native.Mathlib.Nat.{add_assoc}
 use native.Mathlib.Numerals.{add-one}
 use lib.Dec.{leb, ltb, eqb}
 use borrow.Author.Tests.{eqb-true, not-false}
-use Rattle.std.proofs.lemmas.Bool.{and_parts}
+use Rattle.std.proofs.lemmas.Bool.{and_parts, or_parts}
 use Rattle.integers.proofs.Tests.{tests, none}
 use lib.IntN.{ℤ, pos, neg_ℤ, ◌+ℤ◌, ◌-ℤ◌, ◌*ℤ◌, +ℤ_assoc, +ℤ_invr}
 use lib.ListN.{length, replicate, set}
 use Rattle.integers.specs.Lists.{keep_if, sum_count, sum}
 use Rattle.integers.proofs.Ring.{ring, ◌⊕◌, ◌⊖◌, ◌⊗◌, ⊝◌, num}
 use Rattle.funding.specs.Minute.{weighted_sum}
-use Rattle.columns.specs.Columns.{table, raise, raise_count}
+use Rattle.columns.specs.Columns.{entry, table, raise, raise_count}
 use Rattle.day.specs.declared.Day.{Day}
 use Rattle.figures.specs.declared.Figures.{Figures}
 use Rattle.calls.specs.declared.Call.TheVariants as call
 use Rattle.calls.specs.declared.Trade.{Trade}
 use Rattle.calls.specs.declared.Call.{Call}
 use Rattle.calls.proofs.Calls.{TradeOr, CloseOr, trade, close, trade_or, close_or}
-use Rattle.calls.specs.Length.{full_day, is_length}
+use Rattle.calls.specs.Length.{full_day, final_day, is_ordinary_length}
 use Rattle.settlement.specs.Fixing.{amount_of, settlement_price}
 use Rattle.figures.specs.Fixing.{fix_price}
-use Rattle.day.specs.Day.{is_fixed, is_final, minute_of}
+use Rattle.day.specs.Day.{is_fixed, is_final, minute_of, forbids_any_fix}
 use Rattle.day_effects.specs.Effects.{with_minutes, with_trades, with_fixed, with_timing, traded, minute_ended}
 use Rattle.outcomes.specs.Effects.{with_day, figures_after}
 use Rattle.calls.proofs.Calls as calls
@@ -34,11 +34,15 @@ use Rattle.counterparties.specs.Counterparties.{exchanged, counted}
 use Rattle.ledger.specs.declared.Book.{Book}
 use Rattle.ledger.specs.Effects.{with_figures, traded_book, closed_book, effect}
 use Rattle.ledger.specs.Step.{fresh}
-use Rattle.ledger.proofs.Allowed.{Allowed}
-use Rattle.history.specs.History.{History, length_of, begun, halted, market, minute_market, last, closings, today, closed_part, trades, minute_ends, fixes, minutes, at_last_end, ends_valid, valid_of, valid_minutes, final_trades, tie_of}
-use Rattle.history.specs.Cash.{final_minute, index_on, price_at, at_fix, previous_of, price_on, last_price, rate_on, amount_on, of_account, signed, net, yield, paid, cash_of}
+use Rattle.refusals.specs.Refusals.{most_days}
+use Rattle.figures.specs.Figures.{is_over}
+use Rattle.outcomes.specs.Outcome.{day_forbids}
+use Rattle.outcomes.proofs.Passed.{passed_day}
+use Rattle.ledger.proofs.Allowed.{Allowed, accounts_allow}
+use Rattle.history.specs.History.{History, length_of, begun, is_final_on, expired, halted, market, minute_market, last, closings, today, closed_part, trades, minute_ends, fixes, minutes, at_last_end, ends_valid, valid_of, valid_minutes, final_trades, tie_of}
+use Rattle.history.specs.Cash.{final_minute, index_on, price_at, at_fix, previous_of, price_on, last_price, rate_on, amount_on, of_account, signed, net, position_of, yield, paid, cash_of}
 use Rattle.history.specs.LastMinute.{latest, minute_markets, stood}
-use Rattle.history.proofs.LastMinute.{midpoints_from, after_quote, after_timed, after_minute, after_length, at_fix_time}
+use Rattle.history.proofs.LastMinute.{midpoints_from, after_quote, after_timed, after_minute, after_length, after_final_date, at_fix_time}
 use Rattle.history.proofs.Columns.{table_ext, replicate_table, raise_table, raise_count_table}
 
 -- ---- the book of a history
@@ -54,7 +58,7 @@ day_from s h = record {
 }
 
 abbrev pub figures_from : ℕ → History → Figures
-figures_from s h = record { size = s; closed = length (closings h); halted = halted h; previous = previous_of (closings h); day = day_from s h }
+figures_from s h = record { size = s; closed = length (closings h); halted = halted h; expired = expired h; previous = previous_of (closings h); day = day_from s h }
 
 -- account j's signed quantity × price of a trade, of all trades, and of today's
 abbrev pub priced : ℕ → Trade → ℤ
@@ -73,17 +77,39 @@ turnover j t = cond (eqb t.buyer j) t.quantity 0 + cond (eqb t.seller j) t.quant
 abbrev pub volume_of : History → ℕ → ℕ
 volume_of h j = sum_count (turnover j) (trades (today h))
 
+-- account j's opening position
+abbrev pub opening_of : History → ℕ → ℤ
+opening_of h j = cond (expired h) (pos 0) (net (closed_part (closings h)) j)
+
 abbrev pub book_from : ℕ → ℕ → History → Book
 book_from n s h = record {
   figures = figures_from s h;
   columns = record {
-    opening = table n (net (closed_part (closings h)));
-    position = table n (net h);
+    opening = table n (opening_of h);
+    position = table n (position_of h);
     cost = table n (cost_of h);
     volume = table n (volume_of h);
     cash = table n (cash_of s h);
   };
 }
+
+-- ---- what an allowed call says of the book
+
+module _ (n s : ℕ) (h : History) (c : Call) (p : Allowed n (book_from n s h) c) where
+  abbrev parts : (day_forbids (day_from s h) c ≡ false) × (is_over (figures_from s h) ≡ false)
+  parts = passed_day (figures_from s h) c (accounts_allow n c) p.sentences
+
+  pub day_allows : day_forbids (day_from s h) c ≡ false
+  day_allows = parts.0
+
+  pub not_expired : expired h ≡ false
+  not_expired = (or_parts (leb most_days (length (closings h))) (expired h) parts.1).1
+
+  -- no minute has ended before the date has begun
+  pub none_ended : begun h ≡ false → minutes h ≡ 0
+  none_ended late =
+      let d = p.figures.day in
+      eqb-true (minutes h) 0 (and_parts (eqb (length_of h) full_day) (eqb (minutes h) 0) (rw late at d.start)).1
 
 -- ---- the figures, call by call
 
@@ -110,12 +136,12 @@ module _ (s : ℕ) (h : History) where
   weighted-minute_ended u = if_ap weighted_sum (ends u) (minute_of (minute_market h) (last h) u) (valid_minutes h)
 
   -- the price of a fix that comes after the day's last minute
-  pub fix_price-price_at : (set : ℕ) → length_of h ≤ minutes h → fix_price (figures_from s h) set ≡ price_at (previous_of (closings h)) (record { value = set; before = h })
+  pub fix_price-price_at : (set : ℕ) → length_of h ≤ minutes h → fix_price (figures_from s h) set ≡ price_at (previous_of (closings h)) (record { final = false; value = set; before = h })
   fix_price-price_at set over = ap (λ m. settlement_price set (final_minute (final_trades h)) m (index_on h) (previous_of (closings h))) (at_fix_time h over)
 
   -- an accepted call leads to the figures of its history: a part of the day at a time
   pub figures_after-figures_from : (n : ℕ) (c : Call) → Allowed n (book_from n s h) c → figures_after (figures_from s h) c ≡ figures_from s (c ∷ h)
-  unfolding figures_after length_of begun halted market minute_market last closings minute_ends fixes final_trades at_last_end at_fix previous_of valid_of sum_count weighted_sum latest minute_markets stood
+  unfolding figures_after length_of begun expired halted market minute_market last closings minute_ends fixes final_trades at_last_end at_fix previous_of valid_of sum_count weighted_sum latest minute_markets stood
   figures_after-figures_from n (call.Quote m) p =
       let f = figures_after (figures_from s h) (call.Quote m) in
       λ i. with_day f f.halted (with_timing f.day (record { latest = latest h; midpoints = after_quote h m i }))
@@ -126,24 +152,30 @@ module _ (s : ℕ) (h : History) where
   figures_after-figures_from n call.Resume p = refl
   figures_after-figures_from n (call.MinuteEnd u) p =
       let f = figures_after (figures_from s h) (call.MinuteEnd u) in
-      let before : minutes h < length_of h = omega (tests, none (leb (length_of h) (minutes h)) (is_fixed (day_from s h) ∷ []) p.sentences.day 0) in
+      let before : minutes h < length_of h = omega (tests, none (leb (length_of h) (minutes h)) (is_fixed (day_from s h) ∷ []) (day_allows n s h (call.MinuteEnd u) p) 0) in
       λ i. with_day f f.halted
       (with_timing (with_minutes f.day (record { ended = add-one (minutes h) i; valid = valid_after u i; weighted = weighted-minute_ended u i; index = f.day.minutes.index }))
       (record { latest = 0; midpoints = after_minute h u before i }))
   figures_after-figures_from n (call.Fix set) p =
       let f = figures_after (figures_from s h) (call.Fix set) in
-      let over : length_of h ≤ minutes h = omega (tests, none (ltb (minutes h) (length_of h)) (is_fixed (day_from s h) ∷ []) p.sentences.day 0) in
+      let any = (or_parts (is_final_on h) (forbids_any_fix (day_from s h)) (day_allows n s h (call.Fix set) p)).1 in
+      let over : length_of h ≤ minutes h = omega (tests, none (ltb (minutes h) (length_of h)) (is_fixed (day_from s h) ∷ []) any 0) in
       λ i. with_day f f.halted (with_fixed f.day (record { price = fix_price-price_at set over i; amount = amount_of (tie_of h) (rate_on h) (fix_price-price_at set over i) s }))
   figures_after-figures_from n call.Close p = cc (add-one (length (closings h)))
   figures_after-figures_from n (call.DayLength l) p =
       let f = figures_after (figures_from s h) (call.DayLength l) in
-      let d = p.figures.day in
-      let start = and_parts (eqb (length_of h) full_day) (eqb (minutes h) 0) (rw p.sentences.day at d.start) in
-      let same = after_length h l d.length (not-false (is_length l) p.sentences.field) (eqb-true (minutes h) 0 start.1) in
+      let ordinary = not-false (is_ordinary_length l) p.sentences.field in
+      let none = none_ended n s h (call.DayLength l) p (day_allows n s h (call.DayLength l) p) in
+      let same = after_length h l p.figures.day.length (ap (λ t. t || eqb l final_day) ordinary) none in
       λ i. with_day f f.halted (with_timing f.day (record { latest = latest h; midpoints = same i }))
   figures_after-figures_from n (call.TimedQuote q) p =
       let f = figures_after (figures_from s h) (call.TimedQuote q) in
       λ i. with_day f f.halted (with_timing f.day (record { latest = q.time; midpoints = after_timed h q i }))
+  figures_after-figures_from n (call.FinalDate m) p =
+      let f = figures_after (figures_from s h) (call.FinalDate m) in
+      let same = after_final_date h m p.figures.day.length (none_ended n s h (call.FinalDate m) p (day_allows n s h (call.FinalDate m) p)) in
+      λ i. with_day f f.halted (with_timing f.day (record { latest = latest h; midpoints = same i }))
+  figures_after-figures_from n (call.FinalFix v) p = refl
 
 -- ---- the columns after a trade
 
@@ -182,7 +214,22 @@ cost_traded n h t =
     regroup : (w v x : ℤ) → w -ℤ v +ℤ x ≡ w +ℤ x -ℤ v
     regroup = ring 3 (λ w v x. w ⊖ v ⊕ x) (λ w v x. w ⊕ x ⊖ v) refl
 
+-- the contract has not ended where a call is allowed
+position_traded : (n : ℕ) (h : History) (t : Trade) → expired h ≡ false → exchanged (table n (position_of h)) t t.quantity ≡ table n (position_of (call.Trade t ∷ h))
+unfolding trades sum expired
+position_traded n h t going = go (expired h) going
+  where
+    go : (x : Bool) → x ≡ false → exchanged (table n (λ j. cond x (pos 0) (net h j))) t t.quantity ≡ table n (λ j. cond x (pos 0) (net (call.Trade t ∷ h) j))
+    go false e = exchanged_table n (net h) t t.quantity
+    go true e = absurd (true≢false e)
+
 -- ---- the columns after a close
+
+-- the positions that it leaves, where those before it are f
+left : (n : ℕ) (final x : Bool) (f : ℕ → ℤ) → x ≡ false → cond final (replicate n (pos 0)) (table n (λ j. cond x (pos 0) (f j))) ≡ table n (λ j. cond final (pos 0) (f j))
+left n true x f e = replicate_table n (pos 0)
+left n false false f e = refl
+left n false true f e = absurd (true≢false e)
 
 -- gains against the price P are (net × P − worth) × size
 gains : (s P j : ℕ) (ts : List Trade) → sum (yield s P j) ts ≡ (sum (signed j) ts *ℤ pos P -ℤ sum (priced j) ts) *ℤ pos s
@@ -198,16 +245,20 @@ abbrev cash_after : Book → ℕ → ℤ
 cash_after b = posted b.figures b.columns.opening b.columns.position b.columns.cost b.columns.cash
 
 -- what the account j had, what the close of h posts to it, and what it has then
-cash_closed : (n s : ℕ) (h : History) (j : ℕ) → j < n → cash_after (book_from n s h) j ≡ cash_of s (call.Close ∷ h) j
+cash_closed : (n s : ℕ) (h : History) → expired h ≡ false → (j : ℕ) → j < n → cash_after (book_from n s h) j ≡ cash_of s (call.Close ∷ h) j
 unfolding closings closed_part previous_of trades sum
-cash_closed n s h j k =
+cash_closed n s h going j k =
     let before = closed_part (closings h) in
     let paidBefore = sum (paid s j) (closings h) in
-    cc (table_at n (cash_of s h) j (pos 0) k, table_at n (net h) j (pos 0) k, table_at n (net before) j (pos 0) k, table_at n (cost_of h) j (pos 0) k)
+    cc (table_at n (cash_of s h) j (pos 0) k, held (position_of h) (net h) refl, held (opening_of h) (net before) refl, table_at n (cost_of h) j (pos 0) k)
     ∙ ap (λ z. z +ℤ paidBefore +ℤ posting (figures_from s h) (net h j) (net before j) (cost_of h j)) (gains s (last_price h) j (trades before))
     ∙ telescope (net h j) (pos (price_on h)) (worth h j) (net before j) (pos (last_price h)) (worth before j) (pos s) paidBefore (amount_on s h)
     ∙ ap (λ z. z +ℤ (paidBefore +ℤ paid s j h)) (sym (gains s (price_on h) j (trades h)))
   where
+    -- an entry of a column that the end of the contract clears
+    held : (f g : ℕ → ℤ) → f j ≡ cond (expired h) (pos 0) (g j) → entry (table n f) j ≡ g j
+    held f g e = table_at n f j (pos 0) k ∙ e ∙ ap (λ (x : Bool). cond x (pos 0) (g j)) going
+
     -- n, P, w now, and m, Q, v at the close before
     telescope : (n P w m Q v s f a : ℤ)
         → (m *ℤ Q -ℤ v) *ℤ s +ℤ f +ℤ ((n *ℤ P -ℤ m *ℤ Q -ℤ (w -ℤ v)) *ℤ s +ℤ n *ℤ a *ℤ pos 100) ≡ (n *ℤ P -ℤ w) *ℤ s +ℤ (f +ℤ n *ℤ a *ℤ pos 100)
@@ -223,17 +274,21 @@ cost_closed n h = replicate_table n (pos 0) ∙ table_ext n (λ j. pos 0) (cost_
 -- ---- the book, call by call
 
 pub effect_is : (n s : ℕ) (h : History) (c : Call) → Allowed n (book_from n s h) c → effect n (book_from n s h) c ≡ book_from n s (c ∷ h)
-unfolding effect closings today closed_part trades sum_count sum
+unfolding effect closings today closed_part expired trades sum_count sum
 effect_is n s h c allowed = by (trade_or c) (close_or c)
   where
+    going : expired h ≡ false
+    going = not_expired n s h c allowed
+
     by : TradeOr c → CloseOr c → effect n (book_from n s h) c ≡ book_from n s (c ∷ h)
-    by (trade t e) k = rw e (cc (figures_after-figures_from s h n (call.Trade t) (rw e at allowed), exchanged_table n (net h) t t.quantity, cost_traded n h t, counted_table n (volume_of h) t))
+    by (trade t e) k = rw e (cc (figures_after-figures_from s h n (call.Trade t) (rw e at allowed), position_traded n h t going, cost_traded n h t, counted_table n (volume_of h) t))
     by (calls.TradeOr.other o) (close e) =
         rw e
-        (cc (figures_after-figures_from s h n call.Close (rw e at allowed), cost_closed n h, replicate_table {A = ℕ} n 0, table_ext n (cash_after (book_from n s h)) (cash_of s (call.Close ∷ h)) (cash_closed n s h)))
+        (cc (figures_after-figures_from s h n call.Close (rw e at allowed), cost_closed n h, replicate_table {A = ℕ} n 0, left n (is_final_on h) (expired h) (net h) going, table_ext n (cash_after (book_from n s h)) (cash_of s (call.Close ∷ h)) (cash_closed n s h going)))
     by (calls.TradeOr.other o) (calls.CloseOr.other k) =
         let b = book_from n s h in
         let f = figures_after (figures_from s h) c in
+        let ended : expired h ≡ expired (c ∷ h) = sym (k Bool (is_final_on h) (expired h)) in
         let days : closings h ≡ closings (c ∷ h) = sym (k (List History) (h ∷ closings h) (closings h)) in
         let all : trades h ≡ trades (c ∷ h) = sym (o (List Trade) (λ t. t ∷ trades h) (trades h)) in
         let todays : trades (today h) ≡ trades (today (c ∷ h)) = sym (ap trades (k History [] (c ∷ today h)) ∙ o (List Trade) (λ t. t ∷ trades (today h)) (trades (today h))) in
@@ -241,8 +296,8 @@ effect_is n s h c allowed = by (trade_or c) (close_or c)
         ∙ (λ i. record {
           figures = figures_after-figures_from s h n c allowed i;
           columns = record {
-            opening = table n (net (closed_part (days i)));
-            position = table n (λ j. sum (signed j) (all i));
+            opening = table n (λ j. cond (ended i) (pos 0) (net (closed_part (days i)) j));
+            position = table n (λ j. cond (ended i) (pos 0) (sum (signed j) (all i)));
             cost = table n (λ j. sum (priced j) (all i) -ℤ worth (closed_part (days i)) j);
             volume = table n (λ j. sum_count (turnover j) (todays i));
             cash = table n (λ j. sum (yield s (previous_of (days i)).price j) (trades (closed_part (days i))) +ℤ sum (paid s j) (days i));
@@ -250,5 +305,5 @@ effect_is n s h c allowed = by (trade_or c) (close_or c)
         })
 
 pub fresh_is : (n s : ℕ) → fresh n s ≡ book_from n s []
-unfolding length_of begun halted market minute_market last closings today closed_part trades minute_ends fixes valid_of final_trades sum_count sum at_last_end at_fix previous_of weighted_sum latest minute_markets stood
+unfolding length_of begun expired halted market minute_market last closings today closed_part trades minute_ends fixes valid_of final_trades sum_count sum at_last_end at_fix previous_of weighted_sum latest minute_markets stood
 fresh_is n s = cc (replicate_table n (pos 0), replicate_table {A = ℕ} n 0)

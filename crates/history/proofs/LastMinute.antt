@@ -3,7 +3,7 @@
 --     after_quote, after_halt     a quote without a time and a halt add nothing
 --     after_timed             a timed quote adds what the standing market stood since the latest time
 --     after_minute            a minute's end adds what it stood up to 60,000
---     after_length            a length of day comes before the last minute
+--     after_length, after_final_date     a length of day and a final date come before the last minute
 --     at_fix_time             after the last minute, the book's midpoints are those of the whole of it
 -- Assumes nothing.
 use mathlib.Core.Path.{◌≡◌, refl, sym, ◌∙◌, ap}
@@ -20,8 +20,9 @@ use Rattle.funding.specs.declared.market.Market.{Market}
 use Rattle.funding.specs.Market.{two_sided, midpoint}
 use Rattle.settlement.specs.declared.Midpoints.{Midpoints}
 use Rattle.calls.specs.declared.Call.TheVariants as call
+use Rattle.expiry.specs.declared.Month.{Month}
 use Rattle.calls.specs.declared.TimedQuote.{TimedQuote}
-use Rattle.calls.specs.Length.{full_day, short_day, is_length}
+use Rattle.calls.specs.Length.{full_day, short_day, final_day, is_ordinary_length, is_length}
 use Rattle.calls.specs.Time.{minute_length}
 use Rattle.day.specs.Day.{in_last_minute, no_midpoints, with_market}
 use Rattle.history.specs.History.{History, length_of, market, minutes, minute_ends, at_last_end}
@@ -66,6 +67,8 @@ head (call.Fix set ∷ h) = record { rest = (head h).rest; is = (head h).is }
 head (call.Close ∷ h) = record { rest = []; is = refl }
 head (call.DayLength l ∷ h) = record { rest = (head h).rest; is = (head h).is }
 head (call.TimedQuote q ∷ h) = record { rest = minute_markets h; is = refl }
+head (call.FinalDate m ∷ h) = record { rest = (head h).rest; is = (head h).is }
+head (call.FinalFix v ∷ h) = record { rest = (head h).rest; is = (head h).is }
 
 -- the minute's midpoints up to the latest time
 abbrev running : History → Midpoints
@@ -141,7 +144,10 @@ after_minute h u before = go (in_last_minute (length_of h) (minutes h)) refl (in
 
 -- where no minute has ended, there are none
 before_any : (h : History) → is_length (length_of h) ≡ true → minutes h ≡ 0 → midpoints_from h ≡ no_midpoints
-before_any h l e = either (eqb (length_of h) full_day) (eqb (length_of h) short_day) l (λ k. by full_day (eqb-true _ _ k) refl refl) (λ k. by short_day (eqb-true _ _ k) refl refl)
+before_any h l e =
+    either (is_ordinary_length (length_of h)) (eqb (length_of h) final_day) l
+    (λ o. either (eqb (length_of h) full_day) (eqb (length_of h) short_day) o (λ k. by full_day (eqb-true _ _ k) refl refl) (λ k. by short_day (eqb-true _ _ k) refl refl))
+    (λ k. by final_day (eqb-true _ _ k) refl refl)
   where
     by : (length : ℕ) → length_of h ≡ length → in_last_minute length 0 ≡ false → leb length 0 ≡ false → midpoints_from h ≡ no_midpoints
     by length k last over = rw (k, e, last, over)
@@ -149,6 +155,10 @@ before_any h l e = either (eqb (length_of h) full_day) (eqb (length_of h) short_
 pub after_length : (h : History) (l : ℕ) → is_length (length_of h) ≡ true → is_length l ≡ true → minutes h ≡ 0 → midpoints_from h ≡ midpoints_from (call.DayLength l ∷ h)
 unfolding length_of minute_ends
 after_length h l before after e = before_any h before e ∙ sym (before_any (call.DayLength l ∷ h) after e)
+
+pub after_final_date : (h : History) (m : Month) → is_length (length_of h) ≡ true → minutes h ≡ 0 → midpoints_from h ≡ midpoints_from (call.FinalDate m ∷ h)
+unfolding length_of minute_ends
+after_final_date h m before e = before_any h before e ∙ sym (before_any (call.FinalDate m ∷ h) refl e)
 
 pub at_fix_time : (h : History) → length_of h ≤ minutes h → midpoints_from h ≡ midpoints_on h
 at_fix_time h over = go (in_last_minute (length_of h) (minutes h)) refl

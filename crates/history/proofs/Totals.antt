@@ -1,5 +1,6 @@
 -- Over all accounts, the positions and the cash of a history sum to zero. Assumes nothing.
 use mathlib.Core.Path.{◌≡◌, ◌∙◌, ap₂}
+use mathlib.Core.Bool.{Bool, true, false, cond}
 use mathlib.Core.List.{List, [], ◌∷◌}
 use Prim.Native.Nat.{ℕ, ◌<◌}
 use lib.IntN.{pos, neg_ℤ, ◌+ℤ◌, ◌-ℤ◌, ◌*ℤ◌, +ℤ_invr}
@@ -8,9 +9,9 @@ use Rattle.calls.specs.declared.Call.TheVariants as call
 use Rattle.calls.specs.declared.Trade.{Trade}
 use Rattle.calls.proofs.Calls.{on_trade_is}
 use Rattle.counterparties.proofs.Present.{in_range}
-use Rattle.history.specs.History.{History, closings, closed_part, trades}
-use Rattle.history.specs.Cash.{last_price, amount_on, of_account, signed, net, yield, paid, cash_of}
-use Rattle.history.proofs.Sums.{over_all, all_add, all_account, scaled_cancels, sum_cancels}
+use Rattle.history.specs.History.{History, expired, closings, closed_part, trades}
+use Rattle.history.specs.Cash.{last_price, amount_on, of_account, signed, net, position_of, yield, paid, cash_of}
+use Rattle.history.proofs.Sums.{over_all, all_zero, all_add, all_account, scaled_cancels, sum_cancels}
 use Rattle.history.proofs.Accepted.{AllAllowed}
 use Rattle.history.proofs.Days.{closes_allowed}
 
@@ -32,8 +33,15 @@ trades_cancel n s (c ∷ h) a =
     on_trade_is (λ ts. Every (λ t. over_all n (λ j. signed j t) ≡ pos 0) ts) (λ t. t ∷ trades h) (trades h) c
     (λ t e. (trade_cancels n t (in_range n t (rw e at a.0).sentences.accounts), rest)) rest
 
-pub net_cancels : (n s : ℕ) (h : History) → AllAllowed n s h → over_all n (net h) ≡ pos 0
+net_cancels : (n s : ℕ) (h : History) → AllAllowed n s h → over_all n (net h) ≡ pos 0
 net_cancels n s h a = sum_cancels n signed (trades h) (trades_cancel n s h a)
+
+pub positions_cancel : (n s : ℕ) (h : History) → AllAllowed n s h → over_all n (position_of h) ≡ pos 0
+positions_cancel n s h a = go (expired h)
+  where
+    go : (x : Bool) → over_all n (λ j. cond x (pos 0) (net h j)) ≡ pos 0
+    go true = all_zero n
+    go false = net_cancels n s h a
 
 -- what the trades of h yield against the price P
 yield_cancels : (n s P : ℕ) (h : History) → AllAllowed n s h → over_all n (λ j. sum (yield s P j) (trades h)) ≡ pos 0

@@ -5,9 +5,9 @@ use Rattle.std.specs.Prelude.{ℕ, ◌*◌}
 use lib.{Dec.eqb, IntN.ℤ, IntN.pos, IntN.neg_ℤ, IntN.◌+ℤ◌, IntN.◌-ℤ◌, IntN.◌*ℤ◌, ListN.length}
 use Rattle.integers.specs.Lists.{sum_count, sum}
 use Rattle.funding.specs.Minute.{weighted_sum}
-use Rattle.settlement.specs.{declared.FinalMinute.FinalMinute, declared.Previous.Previous, Fixing.rate_of, Fixing.clamped_to, Fixing.amount_of, Fixing.settlement_price}
+use Rattle.settlement.specs.{declared.FinalMinute.FinalMinute, declared.Previous.Previous, Fixing.rate_of, Fixing.clamped_to, Fixing.amount_of, Fixing.settlement_price, Fixing.dime_price}
 use Rattle.calls.specs.declared.Trade.{Trade}
-use Rattle.history.specs.History.{History, Moment, terms_of, tie_of, closings, closed_part, trades, minute_ends, at_last_end, fixes, valid_minutes, final_trades}
+use Rattle.history.specs.History.{History, FixMoment, expired, terms_of, tie_of, closings, closed_part, trades, minute_ends, at_last_end, fixes, valid_minutes, final_trades}
 use Rattle.history.specs.LastMinute.{midpoints_on}
 
 -- 01: "n and gross add up its final-minute kind 0 trades"
@@ -18,12 +18,15 @@ final_minute ts = record { contracts = sum_count (λ t. t.quantity) ts; gross = 
 abbrev pub index_on : History → ℕ
 index_on h = at_last_end 0 (λ m. m.value) (minute_ends h)
 
--- P at a fix, with the price and the index of the closed day before
-abbrev pub price_at : Previous → Moment → ℕ
-price_at previous fix = settlement_price fix.value (final_minute (final_trades fix.before)) (midpoints_on fix.before) (index_on fix.before) previous
+-- P at a fix, with the price and the index of the closed day before; 02-7: on a final date "the settlement price is that value rounded to the nearest 10 cents"
+abbrev pub price_at : Previous → FixMoment → ℕ
+price_at previous fix =
+    cond fix.final
+    (dime_price fix.value)
+    (settlement_price fix.value (final_minute (final_trades fix.before)) (midpoints_on fix.before) (index_on fix.before) previous)
 
 -- f of the day's fix, `none` before it
-unfoldable pub at_fix : {A : Type 0} → A → (Moment → A) → List Moment → A
+unfoldable pub at_fix : {A : Type 0} → A → (FixMoment → A) → List FixMoment → A
 at_fix none f [] = none
 at_fix none f (x ∷ xs) = f x
 
@@ -45,7 +48,7 @@ abbrev pub rate_on : History → ℤ
 rate_on h = clamped_to (terms_of h) (rate_of (length (valid_minutes h)) (weighted_sum (valid_minutes h)))
 
 -- the amount at a fix, for the contract size s
-abbrev pub amount_at : ℕ → Previous → Moment → ℤ
+abbrev pub amount_at : ℕ → Previous → FixMoment → ℤ
 amount_at s previous fix = amount_of (tie_of fix.before) (rate_on fix.before) (price_at previous fix) s
 
 -- the amount of a day; 0 before its fix
@@ -66,11 +69,15 @@ signed j t = of_account t.buyer j (pos t.quantity) +ℤ of_account t.seller j (n
 abbrev pub net : History → ℕ → ℤ
 net h j = sum (signed j) (trades h)
 
+-- the position of the book: 02-7, after the final close "demand 3 has every position 0"
+abbrev pub position_of : History → ℕ → ℤ
+position_of h j = cond (expired h) (pos 0) (net h j)
+
 -- 01: "an accepted trade of a closed day yields signed quantity × (last closed P − trade price) × size"
 abbrev pub yield : ℕ → ℕ → ℕ → Trade → ℤ
 yield s P j t = signed j t *ℤ (pos P -ℤ pos t.price) *ℤ pos s
 
--- a closed day's amount, for the net position at its close: 01, "A cent of amount counts as 100 in cash"
+-- a closed day's amount, for the net position at its close, 02-7: "as they stood before the clearing"; 01: "A cent of amount counts as 100 in cash"
 abbrev pub paid : ℕ → ℕ → History → ℤ
 paid s j d = net d j *ℤ amount_on s d *ℤ pos 100
 

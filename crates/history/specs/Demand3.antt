@@ -15,7 +15,7 @@ use Rattle.integers.specs.Lists.{Every, sum}
 use Rattle.calls.specs.declared.Call.TheVariants as call
 use Rattle.columns.specs.Columns.{entry}
 use Rattle.ledger.specs.{declared.Book.Book, Step.opening, Operations.Operation, Operations.run, Operations.accepted_calls}
-use Rattle.history.specs.{History.History, History.length_of, History.closings, History.today, History.minute_ends, History.fixes, Cash.amount_on, Cash.net, Cash.cash_of}
+use Rattle.history.specs.{History.History, History.length_of, History.is_final_on, History.closings, History.today, History.minute_ends, History.fixes, Cash.amount_on, Cash.position_of, Cash.cash_of}
 
 -- the book of n accounts, opened with the size s, after the calls and sets os
 abbrev pub after : ℕ → ℕ → List Operation → Book
@@ -30,10 +30,11 @@ unfoldable pub calls_of_days : List History → History
 calls_of_days [] = []
 calls_of_days (d ∷ ds) = call.Close ∷ (today d ++ calls_of_days ds)
 
--- a closed day with all of its minute ends, and one fix
+-- a closed day with all of its minute ends, and one fix, of its own kind: 02-7, tag 12 "is the only fix on" a final date
 pub record Whole (d : History) : Type 0 where
   pub minute_count : length (minute_ends d) ≡ length_of d
   pub one_fix : length (fixes d) ≡ 1
+  pub own_kind : Every (λ x. x.final ≡ is_final_on d) (fixes d)
 
 -- the entries of a column, added up
 abbrev pub total : List ℤ → ℤ
@@ -41,7 +42,7 @@ total l = sum (λ z. z) l
 
 pub record Demand3 (n s : ℕ) (os : List Operation) : Type 0 where
   pub cash : (j : ℕ) → j < n → entry (after n s os).columns.cash j ≡ cash_of s (history n s os) j
-  pub position : (j : ℕ) → j < n → entry (after n s os).columns.position j ≡ net (history n s os) j
+  pub position : (j : ℕ) → j < n → entry (after n s os).columns.position j ≡ position_of (history n s os) j
   -- 02-2: "Amounts are compared with that on every day of a book": of a closed day, by the list that ends with its fix
   pub amount : (after n s os).figures.day.fixed.amount ≡ amount_on s (history n s os)
   -- 02-5: "Sums to zero run over all of them"

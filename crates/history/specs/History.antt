@@ -2,10 +2,10 @@
 -- A history is the accepted calls with the latest first: `c ∷ h` is the call c after those of h. The trades of an accepted set are trades among them. Nothing here
 -- reads a book.
 use mathlib.Core.{Bool.Bool, Bool.true, Bool.false, Bool.cond, List.List, List.[], List.◌∷◌}
-use Rattle.std.specs.Prelude.{ℕ, length}
+use Rattle.std.specs.Prelude.{ℕ, length, eqb}
 use Rattle.integers.specs.{declared.Tie.Tie, declared.Tie.TheVariants.Even, Lists.keep_if}
 use Rattle.funding.specs.{declared.Terms.Terms, Terms.standard_terms, Minute.Minute, declared.market.Market.Market, Market.no_market, Market.as_minute, Market.is_valid}
-use Rattle.calls.specs.{declared.Trade.Trade, Trade.is_simple, declared.Call.Call, Calls.on_quote, Calls.on_trade, Calls.on_halt, Calls.on_resume, Calls.by_call, Calls.on_minute_end, Calls.on_fix, Calls.on_close, Calls.on_day_length, Length.full_day}
+use Rattle.calls.specs.{declared.Trade.Trade, Trade.is_simple, declared.Call.Call, Calls.on_quote, Calls.on_trade, Calls.on_halt, Calls.on_resume, Calls.by_call, Calls.on_minute_end, Calls.on_fix, Calls.on_close, Calls.on_day_length, Calls.on_final_date, Calls.on_final_fix, Length.full_day, Length.final_day}
 use Rattle.day.specs.Day.{in_last_minute, is_final, minute_of}
 
 abbrev pub History : Type 0
@@ -13,15 +13,24 @@ History = List Call
 
 -- ---- the open day's date
 
--- 02-1: a length of day "sets 1,320 or 1,140. Without it the day has 1,320"
+-- 02-1: a length of day "sets 1,320 or 1,140. Without it the day has 1,320"; 02-7: tag 11 "makes the date final with length 1,020"
 unfoldable pub length_of : History → ℕ
 length_of [] = full_day
-length_of (c ∷ h) = on_day_length (λ l. l) (on_close full_day (length_of h) c) c
+length_of (c ∷ h) = on_day_length (λ l. l) (on_final_date (λ m. final_day) (on_close full_day (length_of h) c) c) c
 
--- 02-1: "whether such a call or record has come": a "quote, trade, halt, resume or minute end", or a length of day
+-- 02-1: "whether such a call or record has come": a "quote, trade, halt, resume or minute end", a length of day, or a final date
 unfoldable pub begun : History → Bool
 begun [] = false
-begun (c ∷ h) = by_call (λ m. true) (λ t. true) true true (λ u. true) (λ set. begun h) false (λ l. true) (λ q. true) c
+begun (c ∷ h) = by_call (λ m. true) (λ t. true) true true (λ u. true) (λ set. begun h) false (λ l. true) (λ q. true) (λ m. true) (λ v. begun h) c
+
+-- whether the open day is a final date
+abbrev pub is_final_on : History → Bool
+is_final_on h = eqb (length_of h) final_day
+
+-- 02-7: whether the final close has come
+unfoldable pub expired : History → Bool
+expired [] = false
+expired (c ∷ h) = on_close (is_final_on h) (expired h) c
 
 -- ---- the numbers in force on the open day: document 01's on every day
 
@@ -88,10 +97,18 @@ unfoldable pub minute_ends : History → List Moment
 minute_ends [] = []
 minute_ends (c ∷ h) = on_minute_end (λ u. record { value = u; before = h } ∷ minute_ends h) (on_close [] (minute_ends h) c) c
 
--- the open day's fixes, with their set prices
-unfoldable pub fixes : History → List Moment
+-- a fix: whether it is that of a final date, and its moment, with a set price or an hourly index value
+pub record FixMoment : Type 0 where
+  pub final : Bool
+  pub value : ℕ
+  pub before : History
+
+-- the open day's fixes
+unfoldable pub fixes : History → List FixMoment
 fixes [] = []
-fixes (c ∷ h) = on_fix (λ set. record { value = set; before = h } ∷ fixes h) (on_close [] (fixes h) c) c
+fixes (c ∷ h) =
+    on_fix (λ set. record { final = false; value = set; before = h } ∷ fixes h)
+    (on_final_fix (λ v. record { final = true; value = v; before = h } ∷ fixes h) (on_close [] (fixes h) c) c) c
 
 -- the open day's ended minutes
 abbrev pub minutes : History → ℕ

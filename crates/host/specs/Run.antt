@@ -5,7 +5,7 @@ use lib.{Dec.eqb, IntN.ℤ, IntN.pos, ListN.length}
 use Rattle.integers.specs.Lists.{Every}
 use Rattle.columns.specs.Columns.{accounts, entry}
 use Rattle.ledger.specs.{Step.opening, Operations.singles}
-use Rattle.history.specs.{History.History, Cash.net, Cash.cash_of, Demand3.history, Demand3.total, Demand3.calls_of_days, Demand3.Whole, History.closings, History.today}
+use Rattle.history.specs.{History.History, Cash.position_of, Cash.cash_of, Demand3.history, Demand3.total, Demand3.calls_of_days, Demand3.Whole, History.closings, History.today}
 use Rattle.dayfile.specs.Calls.{calls_of}
 use Rattle.records.specs.Run.{RunEnd, run_over}
 use Rattle.printout.specs.Printout.{lines_of}
@@ -37,7 +37,7 @@ history_of size file = history accounts size (singles (calls_of file))
 -- days and the open day put together, and each closed day is whole
 pub record Settled (size : ℕ) (file : List ℕ) (number : ℕ) (positions cash : List ℤ) : Type 0 where
   pub calls : number ≡ length (history_of size file)
-  pub position : (j : ℕ) → j < accounts → entry positions j ≡ net (history_of size file) j
+  pub position : (j : ℕ) → j < accounts → entry positions j ≡ position_of (history_of size file) j
   pub paid : (j : ℕ) → j < accounts → entry cash j ≡ cash_of size (history_of size file) j
   pub positions_cancel : total positions ≡ pos 0
   pub cash_cancels : total cash ≡ pos 0

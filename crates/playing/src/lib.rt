@@ -8,7 +8,7 @@ ghost use Rattle.playing.specs.Printed.{printed_by, played_record};
 
 use calls::Call;
 use dayfile::RecordError;
-use figures::{Fixing, Found, Outcome};
+use figures::{Fixing, Outcome};
 use ledger::checked::CheckedBook;
 use refusals::Refusal;
 
@@ -42,13 +42,13 @@ fn printed_by(outcome: Outcome, closed: u32, call: Call, place: u64) -> Option<P
 {
     match outcome {
         Err(refusal) => Some(Printed::refused(refusal, place)),
-        Ok(Found::Fixing(fixing)) => Some(Printed::Day {
-            day: u64::from(closed) + 1,
-            fixing,
-        }),
-        Ok(Found::Friday(day)) => Some(Printed::Final(day)),
-        Ok(Found::Nothing) => match call {
+        Ok(found) => match call {
+            Call::Fix(_) | Call::FinalFix(_) => found.fixing().map(|fixing| Printed::Day {
+                day: u64::from(closed) + 1,
+                fixing,
+            }),
             Call::Close => Some(Printed::Accounts),
+            Call::FinalDate(_) => Some(Printed::Final(found.friday())),
             _ => None,
         },
     }

@@ -16,7 +16,7 @@ use Rattle.columns.specs.Columns.{accounts}
 use Rattle.ledger.specs.declared.Book.{Book}
 use Rattle.ledger.specs.Step.{Answered, answer_of, step}
 use Rattle.ledger.specs.Operations.{Operation, singles, is_accepted, run, accepted_calls}
-use Rattle.figures.specs.declared.Fixing.{Fixing}
+use Rattle.figures.specs.declared.Found.{Found}
 use Rattle.refusals.specs.declared.Refusal.{Refusal}
 use Rattle.refusals.proofs.Numbers.{is_zero}
 use Rattle.dayfile.specs.declared.RecordError.{RecordError}
@@ -45,7 +45,7 @@ count_then b (Ok (Some c)) rest = one_more (is_accepted accounts b (Operation.Si
 count_then b (Err e) rest = omega arith
 
 -- one call, by whether it was accepted
-pub one_call : (b : Book) (c : Call) (r : Result (Option Fixing) Refusal) (b' : Book) → answer_of r b' ≡ step accounts b c → record { accepted = cond (is_ok r) 1 0; book = b' } ≡ run_over b (c ∷ [])
+pub one_call : (b : Book) (c : Call) (r : Result Found Refusal) (b' : Book) → answer_of r b' ≡ step accounts b c → record { accepted = cond (is_ok r) 1 0; book = b' } ≡ run_over b (c ∷ [])
 unfolding run accepted_calls step
 one_call b c r b' e =
     let t : is_ok r ≡ is_accepted accounts b (Operation.Single c) = sym (is_zero r) ∙ ap (λ (a : Answered). nat_eq a.code 0) e in
