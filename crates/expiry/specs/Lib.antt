@@ -1,2 +1,3 @@
 pub mod Calendar
 pub mod Table
+pub mod Dates

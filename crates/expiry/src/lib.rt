@@ -15,7 +15,7 @@ pub const LAST_YEAR: u16 = 2050;
 // The months of a year.
 pub const MONTHS: u8 = 12;
 
-// A year and a month of it, of which there may be none such.
+// The numbers of a year and of a month, whether or not there is such a month.
 #[derive(Clone, Copy, Debug, PartialEq, Eq)]
 pub struct Month {
     pub year: u16,
@@ -23,7 +23,7 @@ pub struct Month {
 }
 
 impl Month {
-    // Whether the year and the month are each one of the table's.
+    // Each number is tested by itself.
     pub fn is_in_table(self) -> bool
         ensures { result ≡ is_in_table self }
     {
