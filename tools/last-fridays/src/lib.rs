@@ -1,11 +1,13 @@
-//! The last Friday of a month, worked out backwards from the month after it.
+//! The last Friday of a month, worked out from the first day of the month after it.
 //!
-//! The crate `expiry` counts days onward from 1 January 2025 and states which days are last Fridays; here days are
-//! counted from 1 March of the year 0, so that a leap day ends its year, and no month's length is known.
+//! The definitions of `crates/expiry` count onward from 1 January 2025 by the lengths of years and
+//! months. Here days are counted from 1 March of the year 0, so that a leap day is the last of its
+//! year, and no length is written down.
 
-/// The months of the table, and of a year.
+/// The years of the table.
 pub const FIRST_YEAR: u32 = 2025;
 pub const LAST_YEAR: u32 = 2050;
+/// The months of a year.
 pub const MONTHS: u32 = 12;
 
 const WEEK: u32 = 7;
@@ -29,12 +31,12 @@ fn first_day(year: u32, month: u32) -> u32 {
     } else {
         (year, month - 3)
     };
-    // From March on, months are 31, 30, 31, 30, 31 days long, and again, and only the last of the year falls short.
+    // From March on, five months have 31, 30, 31, 30 and 31 days, and so again; February, the last, falls short.
     let days = (153 * months + 2) / 5;
     365 * year + year / 4 - year / 100 + year / 400 + days
 }
 
-/// How many days before this one the Friday lies that is not after it: 1 March of the year 0 was a Wednesday.
+/// How many days ago the latest Friday was, 0 on a Friday: 1 March of the year 0 was a Wednesday.
 fn days_since_friday(day: u32) -> u32 {
     (day + 5) % WEEK
 }
@@ -64,7 +66,12 @@ mod tests {
     /// Fridays that the calendars of their time show.
     #[test]
     fn a_known_friday_is_one() {
-        for (year, month, day) in [(1582, 10, 15), (1969, 7, 18), (1999, 12, 31), (2024, 11, 29)] {
+        for (year, month, day) in [
+            (1582, 10, 15),
+            (1969, 7, 18),
+            (1999, 12, 31),
+            (2024, 11, 29),
+        ] {
             assert_eq!(days_since_friday(first_day(year, month) + day - 1), 0);
         }
     }
