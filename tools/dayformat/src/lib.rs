@@ -18,8 +18,10 @@ pub mod tag {
     pub const LENGTH_OF_DAY: u8 = 8;
     pub const TIMED_QUOTE: u8 = 9;
     pub const TWO_BYTE_TRADE: u8 = 10;
+    pub const FINAL_DATE: u8 = 11;
+    pub const FINAL_FIX: u8 = 12;
 
-    pub const KNOWN: [u8; 10] = [
+    pub const KNOWN: [u8; 12] = [
         TRADE,
         QUOTE,
         MINUTE_END,
@@ -30,6 +32,8 @@ pub mod tag {
         LENGTH_OF_DAY,
         TIMED_QUOTE,
         TWO_BYTE_TRADE,
+        FINAL_DATE,
+        FINAL_FIX,
     ];
 }
 
@@ -52,6 +56,10 @@ pub mod length {
     pub const TIMED_QUOTE: u8 = 10;
     /// Buyer 2, seller 2, kind 1, quantity 4, price 4.
     pub const TWO_BYTE_TRADE: u8 = 13;
+    /// Year 2, month 1.
+    pub const FINAL_DATE: u8 = 3;
+    /// Hourly index value 4.
+    pub const FINAL_FIX: u8 = 4;
 }
 
 /// "Kind 0 simple, 1 spread against spread, 2 block."
@@ -83,6 +91,8 @@ pub fn body_length(tag: u8) -> Option<usize> {
         tag::LENGTH_OF_DAY => length::LENGTH_OF_DAY,
         tag::TIMED_QUOTE => length::TIMED_QUOTE,
         tag::TWO_BYTE_TRADE => length::TWO_BYTE_TRADE,
+        tag::FINAL_DATE => length::FINAL_DATE,
+        tag::FINAL_FIX => length::FINAL_FIX,
         _ => return None,
     };
     Some(length.into())
@@ -113,6 +123,8 @@ mod tests {
             (8, 2),
             (9, 10),
             (10, 13),
+            (11, 3),
+            (12, 4),
         ];
         assert_eq!(tag::KNOWN, lengths.map(|(tag, _)| tag));
         for tag in 0..=u8::MAX {

@@ -81,6 +81,17 @@ impl Writer {
         body.extend(offer.to_be_bytes());
         self.record(tag::TIMED_QUOTE, &body)
     }
+
+    /// The date becomes the last one of the contract of a month.
+    pub fn final_date(&mut self, year: u16, month: u8) -> &mut Self {
+        let [high, low] = year.to_be_bytes();
+        self.record(tag::FINAL_DATE, &[high, low, month])
+    }
+
+    /// The fix of a final date, with its hourly index value.
+    pub fn final_fix(&mut self, hourly: u32) -> &mut Self {
+        self.record(tag::FINAL_FIX, &hourly.to_be_bytes())
+    }
 }
 
 /// The accounts are the bytes of buyer and seller.
@@ -102,6 +113,7 @@ mod tests {
         file.length_of_day(1_140);
         file.timed_quote(30_000, 200_100, 200_300);
         file.two_byte_trade((3, 1_023), 0, 12, 200_200);
+        file.final_date(2_035, 10).final_fix(200_005);
         let (mut rest, mut tags) = (&file.bytes[..], Vec::new());
         while let Some((tag, length, after)) = header(rest) {
             assert_eq!(body_length(tag), Some(length));
@@ -109,5 +121,12 @@ mod tests {
             rest = &after[length..];
         }
         assert_eq!(tags, tag::KNOWN);
+    }
+
+    #[test]
+    fn a_year_is_written_high_byte_first() {
+        let mut file = Writer::new();
+        file.final_date(2_035, 10);
+        assert_eq!(file.bytes, [11, 0, 3, 7, 243, 10]);
     }
 }
