@@ -71,6 +71,14 @@ pub struct TimedQuote {
     pub market: Market,
 }
 
+/// 02-7: the month that a contract ends in.
+#[derive(Clone, Copy, Debug, PartialEq, Eq)]
+pub struct Month {
+    pub year: u16,
+    /// From 1, as a calendar counts them.
+    pub month: u8,
+}
+
 #[derive(Clone, Copy, Debug, PartialEq, Eq)]
 pub enum Call {
     Trade(Trade),
@@ -85,6 +93,9 @@ pub enum Call {
     Close,
     /// With the minutes.
     LengthOfDay(u16),
+    FinalDate(Month),
+    /// With the hourly index value.
+    FinalFix(u32),
 }
 
 impl Call {
@@ -95,6 +106,11 @@ impl Call {
             Call::TimedQuote(quote) => Some(quote.market),
             _ => None,
         }
+    }
+
+    /// Whether it is a fix of any date.
+    pub fn is_fix(self) -> bool {
+        matches!(self, Call::Fix(_) | Call::FinalFix(_))
     }
 
     /// The time that a quote gives.

@@ -1,6 +1,6 @@
 //! Reads a file's records.
 
-use crate::call::{Call, Market, TimedQuote, Trade};
+use crate::call::{Call, Market, Month, TimedQuote, Trade};
 use crate::rules::FileRules;
 use dayformat::{header, set, tag};
 
@@ -83,6 +83,11 @@ fn call(tag: u8, body: &[u8], rules: &dyn FileRules) -> Call {
         tag::RESUME => Call::Resume,
         tag::FIX => Call::Fix(number(body)),
         tag::LENGTH_OF_DAY => Call::LengthOfDay(number(body) as u16),
+        tag::FINAL_DATE => Call::FinalDate(Month {
+            year: number(&body[0..2]) as u16,
+            month: body[2],
+        }),
+        tag::FINAL_FIX => Call::FinalFix(number(body)),
         _ => Call::Close,
     }
 }

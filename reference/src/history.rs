@@ -56,6 +56,10 @@ impl History {
         &self.days[self.closed_days()]
     }
 
+    pub fn last_closed_day(&self) -> Option<&Day> {
+        self.days[..self.closed_days()].last()
+    }
+
     /// Adds an accepted call to the lists.
     pub fn add(&mut self, call: Call) {
         let day = self.closed_days();
@@ -69,7 +73,8 @@ impl History {
             }),
             Call::Close => self.days.push(Day::default()),
             Call::Quote(_) | Call::TimedQuote(_) | Call::MinuteEnd(_) => {}
-            Call::Fix(_) | Call::LengthOfDay(_) => {}
+            Call::Fix(_) | Call::FinalFix(_) => {}
+            Call::LengthOfDay(_) | Call::FinalDate(_) => {}
         }
     }
 
@@ -107,7 +112,7 @@ impl History {
 #[cfg(test)]
 mod tests {
     use super::*;
-    use crate::call::Market;
+    use crate::call::{Market, Month};
     use dayformat::tag;
 
     /// The separate lists hold what a walk over all calls finds.
@@ -124,13 +129,14 @@ mod tests {
                 day.minute_ends,
                 places(|call| matches!(call, Call::MinuteEnd(_)))
             );
-            assert_eq!(
-                Vec::from_iter(day.fix),
-                places(|call| matches!(call, Call::Fix(_)))
-            );
+            assert_eq!(Vec::from_iter(day.fix), places(|call| call.is_fix()));
             assert_eq!(
                 Vec::from_iter(day.length_of_day),
                 places(|call| matches!(call, Call::LengthOfDay(_)))
+            );
+            assert_eq!(
+                Vec::from_iter(day.final_date),
+                places(|call| matches!(call, Call::FinalDate(_)))
             );
             let listed = |is_halt| -> Vec<usize> {
                 let of_day = history.halts.iter().filter(|halt| halt.day == number);
@@ -162,9 +168,7 @@ mod tests {
             for (place, call) in list.calls.iter().enumerate() {
                 let Call::Trade(trade) = *call else { continue };
                 if trade.buyer == account || trade.seller == account {
-                    let after_fix = list.calls[..place]
-                        .iter()
-                        .any(|call| matches!(call, Call::Fix(_)));
+                    let after_fix = list.calls[..place].iter().any(|call| call.is_fix());
                     trades.push(AccountTrade {
                         day,
                         after_fix,
@@ -208,6 +212,13 @@ mod tests {
         for call in day.iter().chain(&day[..11]) {
             history.add(*call);
         }
+        history.add(Call::Close);
+        history.add(Call::FinalDate(Month {
+            year: 2_035,
+            month: 10,
+        }));
+        history.add(Call::FinalFix(5_000));
+        history.add(trade(2, 7));
         history
     }
 }

@@ -107,11 +107,12 @@ impl Played {
 
     /// Positions and cash where the run ended.
     pub fn report(&self) -> Lists {
-        let (history, rules) = (&self.history, self.rules.calls);
-        let closed = ClosedDays::new(&self.settlements()[..history.closed_days()]);
+        let (history, rules) = (&self.history, self.rules);
+        let settlements = self.settlements();
+        let closed = ClosedDays::new(history, &settlements[..history.closed_days()]);
         (
             self.by_account(|account| position(history, account, history.days.len(), rules)),
-            self.by_account(|account| closed.cash(history, account, rules)),
+            self.by_account(|account| closed.cash(history, account, rules.calls)),
         )
     }
 

@@ -1,6 +1,6 @@
 //! What the programs print.
 
-use crate::accounts::{position, ClosedDays};
+use crate::accounts::ClosedDays;
 use crate::c_run_of;
 use crate::call::{Account, Call};
 use crate::play::{Answer, Played};
@@ -33,15 +33,17 @@ pub fn library_text(played: Option<&Played>) -> String {
 
 fn lines(played: &Played) -> Vec<String> {
     let settlements = played.settlements();
-    let (mut fixes, mut closes, mut place) = (0, 0, 0);
+    let (mut closes, mut place) = (0, 0);
     let mut lines = Vec::new();
     for answer in &played.answers {
         place += usize::from(played.rules.files.counts_in_places(*answer));
         match answer {
             Answer::Refused(number) => lines.push(format!("refused {number} record {place}")),
-            Answer::Accepted(Call::Fix(_)) => {
-                fixes += 1;
-                lines.push(fix_line(fixes, settlements[fixes - 1]));
+            Answer::Accepted(call) if call.is_fix() => {
+                lines.push(fix_line(closes + 1, settlements[closes]));
+            }
+            Answer::Accepted(Call::FinalDate(month)) => {
+                lines.push(format!("final {}", played.rules.expiry.printed(*month)));
             }
             Answer::Accepted(Call::Close) => {
                 closes += 1;
@@ -63,9 +65,11 @@ fn fix_line(day: usize, settlement: Settlement) -> String {
 /// The accounts after the close of the last of the given settlements.
 fn close_lines(played: &Played, settlements: &[Settlement]) -> Vec<String> {
     let (history, rules) = (&played.history, played.rules);
-    let closed = ClosedDays::new(settlements);
+    let closed = ClosedDays::new(history, settlements);
     let line = |account: Account| {
-        let net = position(history, account, closed.count(), rules.calls);
+        let net = rules
+            .expiry
+            .net_after_close(history, account, closed.count(), rules);
         let cash = closed.cash(history, account, rules.calls);
         let shown = rules.files.close_prints(net, cash);
         shown.then(|| format!("acct {account} net {net} cash {cash}"))

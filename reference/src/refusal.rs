@@ -18,12 +18,14 @@ pub const NO_PRICE: u8 = 9;
 pub const TIME: u8 = 11;
 pub const ACCOUNT: u8 = 12;
 pub const SET_LENGTH: u8 = 13;
+pub const MONTH: u8 = 14;
 
 /// One step of the checking order.
 #[derive(Clone, Copy, Debug, PartialEq, Eq)]
 pub enum Check {
     Day,
     Halt,
+    Month,
     Field,
     Time,
     Crossed,
@@ -36,10 +38,11 @@ pub enum Check {
 }
 
 /// 7 is tested for both accounts before 8 for either; 02-4: 11 is "checked right after 5"; 02-5: 12 is
-/// "checked just before 7".
-pub const CHECKING_ORDER: [Check; 11] = [
+/// "checked just before 7"; 02-7: 14 is "checked after 4".
+pub const CHECKING_ORDER: [Check; 12] = [
     Check::Day,
     Check::Halt,
+    Check::Month,
     Check::Field,
     Check::Time,
     Check::Crossed,
@@ -56,6 +59,7 @@ impl Check {
         match self {
             Check::Day => DAY,
             Check::Halt => HALT,
+            Check::Month => MONTH,
             Check::Field => FIELD,
             Check::Time => TIME,
             Check::Crossed => CROSSED,
@@ -113,6 +117,7 @@ impl Asked<'_> {
         match (check, &self.call) {
             (Check::Day, _) => self.day_forbids(),
             (Check::Halt, _) => self.halt_forbids(),
+            (Check::Month, Call::FinalDate(month)) => !self.rules.expiry.is_in_table(*month),
             (Check::Field, _) => self.is_outside_field(),
             (Check::Time, Call::TimedQuote(quote)) => self.time_runs_back(quote.time),
             (Check::Crossed, call) => call
@@ -125,25 +130,32 @@ impl Asked<'_> {
             (Check::SellerPosition, Call::Trade(trade)) => {
                 self.passes_position(trade, trade.seller)
             }
-            (Check::NoPrice, Call::Fix(set_price)) => self.has_no_price(*set_price),
+            (Check::NoPrice, call) if call.is_fix() => self.has_no_price(),
             _ => false,
         }
     }
 
-    /// "A fix [...] twice; a close without a fix".
+    /// "A close without a fix".
     fn day_forbids(&self) -> bool {
-        let (refusals, history) = (self.rules.refusals, self.history);
-        let day = history.open_day();
+        let Rules {
+            refusals, expiry, ..
+        } = self.rules;
+        let (history, day) = (self.history, self.history.open_day());
         let length = self.rules.calls.day_length(&history.days);
         let forbidden = match self.call {
             Call::MinuteEnd(_) => refusals.minute_end_is_late(day, length),
-            Call::Fix(_) => refusals.fix_is_early(day, length) || day.is_fixed(),
+            Call::Fix(_) | Call::FinalFix(_) => {
+                refusals.fix_is_early(day, length)
+                    || refusals.fix_is_second(day, self.call)
+                    || expiry.fix_is_of_wrong_kind(day, self.call)
+            }
             Call::Close => !day.is_fixed(),
             Call::LengthOfDay(_) => refusals.length_of_day_is_late(history),
+            Call::FinalDate(_) => expiry.final_date_is_late(history, refusals),
             Call::Trade(_) | Call::Quote(_) | Call::TimedQuote(_) => false,
             Call::Halt | Call::Resume => false,
         };
-        forbidden || is_full(history, self.rules)
+        forbidden || is_full(history, self.rules) || expiry.end_forbids(history, self.call)
     }
 
     fn halt_forbids(&self) -> bool {
@@ -152,7 +164,8 @@ impl Asked<'_> {
     }
 
     /// "A nonzero quote side not ticked; an index or set price neither 0 nor a price"; 02-1: "Any other
-    /// length is refused by 5"; 02-4: "A time above 59,999 is refused by 5".
+    /// length is refused by 5"; 02-4: "A time above 59,999 is refused by 5"; 02-7: "an hourly value that is
+    /// no price is 5".
     fn is_outside_field(&self) -> bool {
         let calls = self.rules.calls;
         match self.call {
@@ -166,7 +179,8 @@ impl Asked<'_> {
                 value != 0 && !calls.is_price(value.into())
             }
             Call::LengthOfDay(minutes) => !calls.is_length(minutes),
-            Call::Halt | Call::Resume | Call::Close => false,
+            Call::FinalFix(value) => !self.rules.expiry.is_hourly_value(value, calls),
+            Call::FinalDate(_) | Call::Halt | Call::Resume | Call::Close => false,
         }
     }
 
@@ -190,13 +204,13 @@ impl Asked<'_> {
 
     fn passes_position(&self, trade: &Trade, account: Account) -> bool {
         let days = self.history.days.len();
-        let present = position(self.history, account, days, self.rules.calls);
+        let present = position(self.history, account, days, self.rules);
         let after = present + self.rules.calls.signed_quantity(*trade, account);
         after.abs() > self.rules.refusals.position_limit(account)
     }
 
-    fn has_no_price(&self, set_price: u32) -> bool {
+    fn has_no_price(&self) -> bool {
         let today = self.history.closed_days();
-        settlement_price(self.history, today, set_price, self.rules).is_none()
+        settlement_price(self.history, today, self.call, self.rules).is_none()
     }
 }

@@ -2,12 +2,14 @@
 //! its number as in `02-1:`, of a request of document 02.
 
 mod calls;
+mod expiry;
 mod files;
 mod midpoints;
 mod refusals;
 mod sets;
 
 pub use calls::CallRules;
+pub use expiry::ExpiryRules;
 pub use files::FileRules;
 pub use midpoints::MidpointRules;
 pub use refusals::RefusalRules;
@@ -22,6 +24,7 @@ pub struct Rules {
     pub midpoints: &'static dyn MidpointRules,
     pub refusals: &'static dyn RefusalRules,
     pub sets: &'static dyn SetRules,
+    pub expiry: &'static dyn ExpiryRules,
     pub files: &'static dyn FileRules,
 }
 
@@ -31,6 +34,7 @@ impl Rules {
         midpoints: &RightLedger,
         refusals: &RightLedger,
         sets: &RightLedger,
+        expiry: &RightLedger,
         files: &RightLedger,
     };
 
@@ -48,6 +52,7 @@ impl CallRules for RightLedger {}
 impl MidpointRules for RightLedger {}
 impl RefusalRules for RightLedger {}
 impl SetRules for RightLedger {}
+impl ExpiryRules for RightLedger {}
 impl FileRules for RightLedger {}
 
 /// Reads the records of a day file, and sets.

@@ -59,7 +59,7 @@ impl AskedSet<'_> {
     fn meets(&self, check: SetCheck) -> bool {
         let (history, trades, rules) = (self.history, self.trades, self.rules);
         match check {
-            SetCheck::Day => is_full(history, rules),
+            SetCheck::Day => is_full(history, rules) || rules.expiry.end_forbids_set(history),
             SetCheck::Halt => rules.sets.halt_forbids(trades, is_halted(history, rules)),
             SetCheck::Length => !rules.sets.is_length(trades.len()),
             SetCheck::Field(place) => trade_is_outside_field(trades[place], rules),
@@ -85,7 +85,7 @@ impl AskedSet<'_> {
         let signed = |trade, account| calls.signed_quantity(trade, account);
         let mut judged = self.judged(check, trades, signed).into_iter();
         judged.any(|(account, added)| {
-            let present = position(self.history, account, days, calls);
+            let present = position(self.history, account, days, self.rules);
             let after = sets.position_after(present, &added);
             after.abs() > self.rules.refusals.position_limit(account)
         })

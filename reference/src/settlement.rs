@@ -58,17 +58,21 @@ pub fn average_basis(minutes: &[ValidMinute], rules: &dyn CallRules) -> Fraction
 
 /// The settlement price of a fixed day.
 fn fixed_price(history: &History, day: usize, rules: Rules) -> Option<i128> {
-    let set_price = history.days[day].set_price()?;
-    settlement_price(history, day, set_price, rules)
+    let fix = history.days[day].fixed_by()?;
+    settlement_price(history, day, fix, rules)
 }
 
-/// The settlement price that a fix with this set price gives to a day whose minutes have ended.
-pub fn settlement_price(
-    history: &History,
-    day: usize,
-    set_price: u32,
-    rules: Rules,
-) -> Option<i128> {
+/// The settlement price that this fix gives to a day whose minutes have ended.
+pub fn settlement_price(history: &History, day: usize, fix: Call, rules: Rules) -> Option<i128> {
+    match fix {
+        Call::FinalFix(hourly) => Some(rules.expiry.final_price(history, day, hourly, rules)),
+        Call::Fix(set_price) => price_by_rules(history, day, set_price, rules),
+        _ => None,
+    }
+}
+
+/// The price of the first rule that gives one.
+pub fn price_by_rules(history: &History, day: usize, set_price: u32, rules: Rules) -> Option<i128> {
     let days = &history.days[..=day];
     rules
         .calls

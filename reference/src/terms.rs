@@ -12,9 +12,18 @@ pub const AMOUNT_DIVISOR: i128 = 100_000_000_000;
 /// "Cash is in hundredths of a cent."
 pub const CASH_PER_CENT: i128 = 100;
 
+/// In cents. 02-7: "the nearest 10 cents".
+pub const DIME: i128 = 10;
+
+/// As a day of a week from Monday, 0.
+pub const FRIDAY: u32 = 4;
+
 /// 02-1: the length of day "sets 1,320 or 1,140".
 pub const FULL_DAY: u16 = 1_320;
 pub const SHORT_DAY: u16 = 1_140;
+
+/// 02-7: a final date has "length 1,020".
+pub const FINAL_DAY: u16 = 1_020;
 
 /// 02-4: the times of quotes are "0 to 59,999".
 pub const LATEST_TIME: u16 = 59_999;

@@ -2,6 +2,7 @@
 
 use crate::call::Call;
 use crate::file::Record;
+use crate::terms::FINAL_DAY;
 use std::ops::Range;
 
 /// The accepted calls of one day, in order.
@@ -10,10 +11,12 @@ pub struct Day {
     pub calls: Vec<Call>,
     /// Places of the minute ends among the calls.
     pub minute_ends: Vec<usize>,
-    /// Place of the fix among the calls.
+    /// Place of the fix among the calls, be it that of a final date.
     pub fix: Option<usize>,
     /// Place of the length of day among the calls.
     pub length_of_day: Option<usize>,
+    /// Place of the call among the calls that made the date final.
+    pub final_date: Option<usize>,
     /// The records that weren't accepted, in order.
     pub not_accepted: Vec<NotAccepted>,
 }
@@ -32,8 +35,9 @@ impl Day {
         self.calls.push(call);
         match call {
             Call::MinuteEnd(_) => self.minute_ends.push(place),
-            Call::Fix(_) => self.fix = Some(place),
+            Call::Fix(_) | Call::FinalFix(_) => self.fix = Some(place),
             Call::LengthOfDay(_) => self.length_of_day = Some(place),
+            Call::FinalDate(_) => self.final_date = Some(place),
             _ => {}
         }
     }
@@ -46,14 +50,20 @@ impl Day {
         self.fix.is_some()
     }
 
-    pub fn set_price(&self) -> Option<u32> {
-        match self.calls[self.fix?] {
-            Call::Fix(set_price) => Some(set_price),
-            _ => None,
-        }
+    /// The call that fixed it.
+    pub fn fixed_by(&self) -> Option<Call> {
+        Some(self.calls[self.fix?])
     }
 
+    pub fn is_final(&self) -> bool {
+        self.final_date.is_some()
+    }
+
+    /// 02-7: a final date has "length 1,020"; else that of its length of day.
     pub fn given_length(&self) -> Option<u16> {
+        if self.is_final() {
+            return Some(FINAL_DAY);
+        }
         match self.calls[self.length_of_day?] {
             Call::LengthOfDay(minutes) => Some(minutes),
             _ => None,

@@ -60,7 +60,8 @@ pub trait CallRules: Sync {
         minutes == FULL_DAY || minutes == SHORT_DAY
     }
 
-    /// 02-1: "Without it the day has 1,320."
+    /// 02-1: "Without it the day has 1,320." 02-7: a final date has "length 1,020, a third length, which
+    /// a book holds exactly on a final date".
     fn day_length(&self, days: &[Day]) -> usize {
         let given = days.last().and_then(Day::given_length);
         given.unwrap_or(FULL_DAY).into()

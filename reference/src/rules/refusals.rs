@@ -8,7 +8,7 @@ use dayformat::kind::{BLOCK, SIMPLE};
 use std::ops::RangeInclusive;
 
 pub trait RefusalRules: Sync {
-    /// "Refusals, in checking order": 3 to 9, 11 and 12.
+    /// "Refusals, in checking order": 3 to 9, 11, 12 and 14.
     fn checking_order(&self, _call: Call) -> &'static [Check] {
         &CHECKING_ORDER
     }
@@ -23,9 +23,14 @@ pub trait RefusalRules: Sync {
         day.ended_minutes() >= length || day.is_fixed()
     }
 
-    /// 3: "a fix before [the last minute]".
+    /// 3: "a fix before [the last minute]", of any date.
     fn fix_is_early(&self, day: &Day, length: usize) -> bool {
         day.ended_minutes() < length
+    }
+
+    /// 3: "a fix [...] twice".
+    fn fix_is_second(&self, day: &Day, _call: Call) -> bool {
+        day.is_fixed()
     }
 
     /// 02-1: "a late or second record by 3".
@@ -35,13 +40,13 @@ pub trait RefusalRules: Sync {
     }
 
     /// 02-1: what the record comes before: "a date's first accepted quote, trade, halt, resume or minute
-    /// end", and another record.
+    /// end", and another record. 02-7: tags 8 and 11 are "one of the two per date".
     fn begins_date(&self, call: Call) -> bool {
         match call {
             Call::Quote(_) | Call::TimedQuote(_) | Call::Trade(_) => true,
             Call::Halt | Call::Resume => true,
-            Call::MinuteEnd(_) | Call::LengthOfDay(_) => true,
-            Call::Fix(_) | Call::Close => false,
+            Call::MinuteEnd(_) | Call::LengthOfDay(_) | Call::FinalDate(_) => true,
+            Call::Fix(_) | Call::FinalFix(_) | Call::Close => false,
         }
     }
 
@@ -50,7 +55,8 @@ pub trait RefusalRules: Sync {
         match call {
             Call::Trade(_) | Call::Quote(_) | Call::TimedQuote(_) | Call::Halt => halted,
             Call::Resume => !halted,
-            Call::MinuteEnd(_) | Call::Fix(_) | Call::Close | Call::LengthOfDay(_) => false,
+            Call::MinuteEnd(_) | Call::Fix(_) | Call::FinalFix(_) | Call::Close => false,
+            Call::LengthOfDay(_) | Call::FinalDate(_) => false,
         }
     }
 
