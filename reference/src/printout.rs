@@ -4,6 +4,7 @@ use crate::accounts::ClosedDays;
 use crate::c_run_of;
 use crate::call::{Account, Call};
 use crate::play::{Answer, Played};
+use crate::rules::AtClose;
 use crate::settlement::Settlement;
 
 /// What the bench program prints of a run, none when the size is refused.
@@ -67,12 +68,18 @@ fn close_lines(played: &Played, settlements: &[Settlement]) -> Vec<String> {
     let (history, rules) = (&played.history, played.rules);
     let closed = ClosedDays::new(history, settlements);
     let line = |account: Account| {
-        let net = rules
-            .expiry
-            .net_after_close(history, account, closed.count(), rules);
+        let at = AtClose {
+            history,
+            account,
+            days: closed.count(),
+            rules,
+        };
         let cash = closed.cash(history, account, rules.calls);
-        let shown = rules.files.close_prints(net, cash);
-        shown.then(|| format!("acct {account} net {net} cash {cash}"))
+        let shown = rules
+            .files
+            .close_prints(rules.expiry.net_to_print_by(&at), cash);
+        let net = || rules.expiry.printed_net(&at);
+        shown.then(|| format!("acct {account} net {} cash {cash}", net()))
     };
     // Without trades an account has neither.
     let traded = history.trades.range(rules.files.printed_accounts());

@@ -9,7 +9,7 @@ mod refusals;
 mod sets;
 
 pub use calls::CallRules;
-pub use expiry::ExpiryRules;
+pub use expiry::{AtClose, ExpiryRules};
 pub use files::FileRules;
 pub use midpoints::MidpointRules;
 pub use refusals::RefusalRules;

@@ -8,6 +8,14 @@ use crate::rules::{CallRules, RefusalRules, Rules};
 use crate::terms::{DIME, FRIDAY};
 use std::ops::RangeInclusive;
 
+/// An account at the close of the last of the first `days` days.
+pub struct AtClose<'a> {
+    pub history: &'a History,
+    pub account: Account,
+    pub days: usize,
+    pub rules: Rules,
+}
+
 /// Days count from 0, as those of `CallRules`.
 pub trait ExpiryRules: Sync {
     // The calendar.
@@ -109,16 +117,14 @@ pub trait ExpiryRules: Sync {
         self.is_final(day)
     }
 
-    /// It clears them "before printing": the position that the close of the last of so many days
-    /// prints.
-    fn net_after_close(
-        &self,
-        history: &History,
-        account: Account,
-        days: usize,
-        rules: Rules,
-    ) -> i128 {
-        position(history, account, days, rules)
+    /// It clears them "before printing": the position that is printed,
+    fn printed_net(&self, at: &AtClose) -> i128 {
+        position(at.history, at.account, at.days, at.rules)
+    }
+
+    /// and the one by which an account is printed.
+    fn net_to_print_by(&self, at: &AtClose) -> i128 {
+        self.printed_net(at)
     }
 
     /// "The book then accepts reports only."
