@@ -6,7 +6,7 @@ use dayformat::{set, tag, Writer, HEADER, LONGEST_BODY};
 
 /// The file with one damage to it.
 pub fn damage(random: &mut Random, file: &[u8]) -> Vec<u8> {
-    match random.below(15) {
+    match random.below(18) {
         0 => truncate(random, file),
         1 => truncate_record(random, file),
         2 | 3 => insert(random, file, unknown_record),
@@ -18,7 +18,9 @@ pub fn damage(random: &mut Random, file: &[u8]) -> Vec<u8> {
         9 => insert_many(random, file),
         10 => damage_one_of(random, file, tag::LENGTH_OF_DAY),
         11 | 12 => damage_one_of(random, file, tag::TIMED_QUOTE),
-        _ => damage_one_of(random, file, tag::TWO_BYTE_TRADE),
+        13 | 14 => damage_one_of(random, file, tag::TWO_BYTE_TRADE),
+        15 | 16 => damage_one_of(random, file, tag::FINAL_DATE),
+        _ => damage_one_of(random, file, tag::FINAL_FIX),
     }
 }
 
@@ -73,7 +75,7 @@ fn insert_many(random: &mut Random, file: &[u8]) -> Vec<u8> {
 }
 
 fn unknown_record(random: &mut Random) -> Vec<u8> {
-    let tag = random.pick(&[0, 11, 12, 13, 77, 255]);
+    let tag = random.pick(&[0, 13, 14, 77, 255]);
     record(random, tag)
 }
 

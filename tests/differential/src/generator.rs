@@ -1,6 +1,7 @@
 //! What the profiles write their files with: markets, trades and days around a price level.
 
 mod accounts;
+mod dates;
 mod quotes;
 mod sets;
 
@@ -8,11 +9,14 @@ pub use accounts::LARGEST;
 pub use sets::in_set;
 
 use crate::random::Random;
+use dates::Contract;
 use dayformat::Writer;
-use reference::terms::{FULL_DAY, SHORT_DAY};
 
 /// The most minutes that the events of one minute may end themselves.
 const LONGEST_EVENTS: usize = 4;
+
+/// The most minute ends in a row after the end of a contract.
+const REFUSED_MINUTE_ENDS: usize = 3;
 
 pub struct Generator {
     pub random: Random,
@@ -21,6 +25,7 @@ pub struct Generator {
     /// The ticked price that quotes, trades and indexes lie around.
     pub level: u32,
     times: Times,
+    contract: Contract,
 }
 
 /// The latest time of the minute under way.
@@ -30,16 +35,6 @@ struct Times {
     /// The bytes of the file that it was read from.
     read: usize,
 }
-
-/// No lengths of a day: at both ends of the field and beside the two lengths.
-const REFUSED_LENGTHS: [u16; 6] = [
-    0,
-    SHORT_DAY - 1,
-    SHORT_DAY + 1,
-    FULL_DAY - 1,
-    FULL_DAY + 1,
-    u16::MAX,
-];
 
 impl Generator {
     pub fn new(seed: u64) -> Self {
@@ -59,6 +54,7 @@ impl Generator {
             size,
             level,
             times: Times::default(),
+            contract: Contract::Open,
         }
     }
 
@@ -67,37 +63,6 @@ impl Generator {
         let mut input = vec![self.size];
         input.extend(self.file.bytes);
         input
-    }
-
-    /// The start of a date, now and then with its length of day. It gives the minutes of the date.
-    pub fn start_date(&mut self) -> usize {
-        match self.random.below(10) {
-            0..=2 => self.length_of_day(SHORT_DAY),
-            3 => self.length_of_day(FULL_DAY),
-            _ => FULL_DAY.into(),
-        }
-    }
-
-    pub fn length_of_day(&mut self, minutes: u16) -> usize {
-        self.file.length_of_day(minutes);
-        minutes.into()
-    }
-
-    pub fn refused_length_of_day(&mut self) {
-        let minutes = self.random.pick(&REFUSED_LENGTHS);
-        self.file.length_of_day(minutes);
-    }
-
-    pub fn any_length_of_day(&mut self) {
-        match self.random.below(3) {
-            0 => {
-                self.file.length_of_day(FULL_DAY);
-            }
-            1 => {
-                self.file.length_of_day(SHORT_DAY);
-            }
-            _ => self.refused_length_of_day(),
-        }
     }
 
     /// A price within about 0.25 % of the level.
@@ -137,6 +102,15 @@ impl Generator {
             true => 0,
             false => self.near_price(),
         };
+        self.minute_ends(count, index);
+    }
+
+    /// After the contract's end a few stand for all.
+    pub fn minute_ends(&mut self, count: usize, index: u32) {
+        let count = match self.contract {
+            Contract::Ended => count.min(REFUSED_MINUTE_ENDS),
+            _ => count,
+        };
         self.file.minute_ends(count, index);
     }
 
@@ -162,21 +136,5 @@ impl Generator {
             left -= quiet.min(left);
         }
         self.quiet_minutes(left);
-    }
-
-    /// A fix that should find a price, with trades before and after it, and the close.
-    pub fn fix_and_close(&mut self) {
-        if self.random.chance(20) {
-            self.any_trade();
-        }
-        if self.random.chance(60) {
-            self.file.fix(0);
-        }
-        let set_price = self.near_price();
-        self.file.fix(set_price);
-        if self.random.chance(40) {
-            self.any_trade();
-        }
-        self.file.close();
     }
 }

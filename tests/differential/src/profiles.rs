@@ -2,6 +2,7 @@
 
 mod accounts;
 mod days;
+mod expiry;
 mod files;
 mod lengths;
 mod limits;
@@ -18,7 +19,7 @@ use reference::terms::SHORT_DAY;
 
 type Profile = fn(&mut Generator);
 
-const PROFILES: [Profile; 25] = [
+const PROFILES: [Profile; 32] = [
     markets::busy_days,
     markets::few_valid_minutes,
     markets::half_pennies,
@@ -41,13 +42,20 @@ const PROFILES: [Profile; 25] = [
     days::short_files,
     lengths::starts_of_dates,
     lengths::last_minutes,
+    expiry::runs_of_dates,
+    expiry::last_minutes,
+    expiry::starts_of_dates,
+    expiry::months,
+    expiry::hourly_values,
+    expiry::without_cash,
+    expiry::ended_contracts,
     files::random_bytes,
     files::random_bodies,
     files::bench_limit,
 ];
 
 /// Of `set_bench`.
-const WITH_SETS: [Profile; 10] = [
+const WITH_SETS: [Profile; 11] = [
     sets::among_calls,
     sets::bad_trades,
     sets::long_lists,
@@ -56,6 +64,7 @@ const WITH_SETS: [Profile; 10] = [
     sets::last_trades,
     sets::limits,
     sets::limits,
+    sets::final_dates,
     sets::random_bodies,
     sets::bench_limit,
 ];
@@ -96,11 +105,15 @@ fn refused_or_empty(mut generator: Generator) -> Vec<u8> {
     }
 }
 
-/// An input of more than 2,600 days, which only the C run can take.
+/// An input of more than 2,600 days, which only the C run can take. If the seed is even, the last day that
+/// the book holds is a final date.
 pub fn long_input(seed: u64) -> Vec<u8> {
     let mut generator = Generator::new(seed);
-    for _ in 0..2_602 {
-        let length = generator.start_date();
+    for day in 1..=2_602 {
+        let length = match day == 2_600 && seed.is_multiple_of(2) {
+            true => generator.final_date(),
+            false => generator.start_ordinary_date(),
+        };
         if generator.random.chance(50) {
             generator.any_trade();
         }
@@ -109,9 +122,11 @@ pub fn long_input(seed: u64) -> Vec<u8> {
         }
         generator.quiet_minutes(length);
         let set_price = generator.near_price();
-        generator.file.fix(set_price).close();
+        generator.fix(set_price);
+        generator.close();
     }
     generator.file.length_of_day(SHORT_DAY);
+    generator.file.final_date(2_035, 10);
     generator.file.timed_quote(0, 0, 0);
     generator
         .file

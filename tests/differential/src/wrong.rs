@@ -3,6 +3,7 @@
 
 mod account_numbers;
 mod accounts;
+mod expiry;
 mod files;
 mod lengths;
 mod midpoints;
@@ -15,6 +16,7 @@ mod settlement;
 mod times;
 mod two_byte_trades;
 
+pub use expiry::OF_EXPIRY;
 pub use sets::WITH_SETS;
 
 use account_numbers::*;
@@ -36,8 +38,11 @@ pub struct WrongLedger {
 }
 
 pub fn named(name: &str) -> Option<&'static WrongLedger> {
-    let mut all = ALL.iter().chain(&WITH_SETS);
-    all.find(|wrong| wrong.name == name)
+    all().find(|wrong| wrong.name == name)
+}
+
+pub fn all() -> impl Iterator<Item = &'static WrongLedger> {
+    ALL.iter().chain(&OF_EXPIRY).chain(&WITH_SETS)
 }
 
 const fn in_calls(name: &'static str, calls: &'static dyn CallRules) -> WrongLedger {

@@ -1,12 +1,13 @@
 //! The generated inputs tell every wrong ledger from the right one and meet every refusal.
 
 use differential::profiles::{input, long_input, set_input};
-use differential::wrong::{WrongLedger, ALL, WITH_SETS};
+use differential::wrong::{WrongLedger, ALL, OF_EXPIRY, WITH_SETS};
+use reference::call::Call;
 use reference::file::{records, Record};
 use reference::play::{Answer, Played};
 use reference::printout::bench_text;
 use reference::rules::{CallRules, Rules};
-use reference::settlement::{settlement_price, PriceRule};
+use reference::settlement::{price_by_rules, PriceRule};
 use reference::{
     bench, bench_under, c_run_of, library_printout, library_printout_under, run, size_and_records,
     Lists,
@@ -34,6 +35,11 @@ static DAY_FILES: Inputs = Inputs {
     right: Rules::RIGHT,
     wrong: &ALL,
     c_run: c_run_of,
+};
+
+static DAY_FILES_FOR_EXPIRY: Inputs = Inputs {
+    wrong: &OF_EXPIRY,
+    ..DAY_FILES
 };
 
 /// No library plays them.
@@ -99,7 +105,7 @@ impl Inputs {
 
 /// A ledger with another limit of days differs only in a file of more than 2,600 days.
 fn differs_in_a_long_file(wrong: &WrongLedger) -> bool {
-    let input = long_input(0);
+    let input = long_input(1);
     let differs = library_printout_under(wrong.rules, &input) != library_printout(&input);
     if differs {
         println!(" long file {}", wrong.name);
@@ -120,6 +126,11 @@ fn every_wrong_ledger_is_told_apart() {
 }
 
 #[test]
+fn every_wrong_ledger_of_expiry_is_told_apart() {
+    assert_none(&DAY_FILES_FOR_EXPIRY.never_told_apart());
+}
+
+#[test]
 fn every_wrong_ledger_of_sets_is_told_apart() {
     assert_none(&INPUTS_WITH_SETS.never_told_apart());
 }
@@ -134,14 +145,14 @@ fn assert_met(files: &[u64], numbers: &[usize]) {
 
 #[test]
 fn every_refusal_of_a_file_is_met() {
-    let mut files = [0; 14];
+    let mut files = [0; 15];
     for seed in 0..DAY_FILES.files / 4 {
         let printout = bench(&input(seed));
         for (number, files) in files.iter_mut().enumerate() {
             *files += u64::from(printout.contains(&format!("refused {number} record")));
         }
     }
-    assert_met(&files, &[1, 3, 4, 5, 6, 7, 8, 9, 11, 12]);
+    assert_met(&files, &[1, 3, 4, 5, 6, 7, 8, 9, 11, 12, 14]);
 }
 
 /// The answers to the sets of an input.
@@ -155,11 +166,9 @@ fn answers_to_sets(input: &[u8]) -> Vec<Answer> {
     of_sets.map(|(_, answer)| answer).collect()
 }
 
-/// A set meets 3 on a full book alone, and the bytes that count don't hold 2,600 days: `set_refusals.rs`
-/// of the reference's tests fills a book that holds one.
 #[test]
 fn every_refusal_of_a_set_is_met() {
-    let (mut files, mut accepted) = ([0; 14], 0);
+    let (mut files, mut accepted) = ([0; 15], 0);
     for seed in 0..INPUTS_WITH_SETS.files / 4 {
         let answers = answers_to_sets(&set_input(seed));
         for (number, files) in files.iter_mut().enumerate() {
@@ -167,7 +176,7 @@ fn every_refusal_of_a_set_is_met() {
         }
         accepted += u64::from(answers.contains(&Answer::AcceptedSet));
     }
-    assert_met(&files, &[4, 5, 7, 8, 12, 13]);
+    assert_met(&files, &[3, 4, 5, 7, 8, 12, 13]);
     assert!(accepted > 0);
 }
 
@@ -180,10 +189,11 @@ impl CallRules for Only {
     }
 }
 
-/// For a set price, trades, midpoints and the index: the fixed days of a file that settle by it.
-fn days_by_rule(input: &[u8]) -> [usize; 4] {
+/// For a set price, trades, midpoints, the index and an hourly value: the fixed days of a file that settle
+/// by it.
+fn days_by_rule(input: &[u8]) -> [usize; 5] {
     static ALONE: [Only; 2] = [Only(&[PriceRule::Trades]), Only(&[PriceRule::Midpoints])];
-    let mut days = [0; 4];
+    let mut days = [0; 5];
     let Some(played) = run(Rules::RIGHT, input) else {
         return days;
     };
@@ -193,12 +203,13 @@ fn days_by_rule(input: &[u8]) -> [usize; 4] {
                 calls,
                 ..Rules::RIGHT
             };
-            settlement_price(&played.history, number, 0, rules).is_some()
+            price_by_rules(&played.history, number, 0, rules).is_some()
         };
-        let rule = match day.set_price() {
-            None => continue,
-            Some(0) => 1 + ALONE.iter().take_while(|rule| !gives_price(*rule)).count(),
-            Some(_) => 0,
+        let rule = match day.fixed_by() {
+            Some(Call::Fix(0)) => 1 + ALONE.iter().take_while(|rule| !gives_price(*rule)).count(),
+            Some(Call::Fix(_)) => 0,
+            Some(Call::FinalFix(_)) => 4,
+            _ => continue,
         };
         days[rule] += 1;
     }
@@ -207,12 +218,12 @@ fn days_by_rule(input: &[u8]) -> [usize; 4] {
 
 #[test]
 fn days_settle_by_every_rule() {
-    let mut days = [0; 4];
+    let mut days = [0; 5];
     for seed in 0..DAY_FILES.files / 4 {
         for (sum, count) in days.iter_mut().zip(days_by_rule(&input(seed))) {
             *sum += count;
         }
     }
-    println!("days by set price, trades, midpoints and index: {days:?}");
+    println!("days by set price, trades, midpoints, index and hourly value: {days:?}");
     assert!(days.iter().all(|count| *count > 20), "{days:?}");
 }

@@ -2,7 +2,7 @@
 //! the place of `funding-bench` or of a program that links the C library. The wrong ledgers of sets stand
 //! in the place of `set_bench`, and so does the reference with `--sets`.
 
-use differential::wrong::{named, ALL, WITH_SETS};
+use differential::wrong::{all, named};
 use reference::program::play_standard_input;
 use reference::rules::Rules;
 
@@ -29,7 +29,7 @@ fn rules_named(name: Option<String>) -> Rules {
 fn usage() -> ! {
     eprintln!("usage: wrong-bench [--wrong NAME | --sets] [--library]");
     eprintln!("wrong ledgers:");
-    for wrong in ALL.iter().chain(&WITH_SETS) {
+    for wrong in all() {
         eprintln!("  {}", wrong.name);
     }
     std::process::exit(2);

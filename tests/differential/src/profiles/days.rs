@@ -16,22 +16,22 @@ pub fn out_of_order(generator: &mut Generator) {
             late_call(generator);
         }
         let set_price = generator.near_price();
-        generator.file.fix(set_price);
+        generator.fix(set_price);
         for _ in 0..generator.random.below(4) {
             late_call(generator);
         }
-        generator.file.close();
+        generator.close();
     }
 }
 
 fn early_calls(generator: &mut Generator) {
     for _ in 0..generator.random.below(3) {
-        match generator.random.below(3) {
-            0 => {
-                let set_price = generator.random.pick(&[0, 1, 4_999, 200_000]);
-                generator.file.fix(set_price);
+        match generator.random.below(4) {
+            0 | 1 => {
+                let price = generator.random.pick(&[0, 1, 4_999, 200_000]);
+                generator.any_fix(price);
             }
-            1 => {
+            2 => {
                 generator.file.close();
             }
             _ => {
@@ -48,8 +48,8 @@ fn late_call(generator: &mut Generator) {
             generator.file.minute_ends(1, index);
         }
         2 => {
-            let set_price = generator.random.pick(&[0, 1, 50_000_001]);
-            generator.file.fix(set_price);
+            let price = generator.random.pick(&[0, 1, 50_000_001]);
+            generator.any_fix(price);
         }
         3 => generator.any_quote(),
         4 => generator.any_trade(),
@@ -58,7 +58,7 @@ fn late_call(generator: &mut Generator) {
         }
         6 => generator.any_length_of_day(),
         _ => {
-            generator.file.close();
+            generator.close();
         }
     }
 }
@@ -76,9 +76,7 @@ pub fn short_files(generator: &mut Generator) {
             6 => {
                 generator.file.resume();
             }
-            7 => {
-                generator.file.fix(0);
-            }
+            7 => generator.any_fix(0),
             8 => generator.any_length_of_day(),
             _ => {
                 generator.file.close();

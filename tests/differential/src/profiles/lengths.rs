@@ -14,7 +14,7 @@ pub fn starts_of_dates(generator: &mut Generator) {
             begin_nothing(generator, halted);
         }
         let left = match generator.random.chance(60) {
-            true => given_length(generator),
+            true => given_length_or_final_date(generator),
             false => usize::from(FULL_DAY) - first_call(generator, halted),
         };
         for _ in 0..generator.random.below(4) {
@@ -24,14 +24,21 @@ pub fn starts_of_dates(generator: &mut Generator) {
     }
 }
 
+fn given_length_or_final_date(generator: &mut Generator) -> usize {
+    match generator.random.chance(10) {
+        true => generator.final_date(),
+        false => given_length(generator),
+    }
+}
+
 fn given_length(generator: &mut Generator) -> usize {
     let minutes = generator.random.pick(&[SHORT_DAY, SHORT_DAY, FULL_DAY]);
     generator.length_of_day(minutes)
 }
 
 /// A record that is refused or unknown.
-fn begin_nothing(generator: &mut Generator, halted: bool) {
-    match generator.random.below(11) {
+pub fn begin_nothing(generator: &mut Generator, halted: bool) {
+    match generator.random.below(14) {
         0 | 1 => generator.refused_length_of_day(),
         2 => generator.crossed_quote(),
         3 => {
@@ -57,21 +64,27 @@ fn begin_nothing(generator: &mut Generator, halted: bool) {
             generator.file.timed_quote(END_OF_MINUTE, 0, 0);
         }
         9 => generator.trade_of_refused_account(),
+        10 | 11 => generator.refused_final_date(),
+        12 => {
+            generator.file.final_fix(200_000);
+        }
         _ => wrong_length_record(generator),
     }
 }
 
-/// No known tag has a body of 1 or 3 bytes.
+/// No known tag has a body of 1 or 5 bytes.
 fn wrong_length_record(generator: &mut Generator) {
     let known = generator.random.pick(&tag::KNOWN);
-    let tag = generator.random.pick(&[tag::LENGTH_OF_DAY, known]);
+    let tag = generator
+        .random
+        .pick(&[tag::LENGTH_OF_DAY, tag::FINAL_DATE, known]);
     let [high, low] = SHORT_DAY.to_be_bytes();
-    let length = generator.random.pick(&[1, 3]);
-    generator.file.record(tag, &[high, low, 0][..length]);
+    let length = generator.random.pick(&[1, 5]);
+    generator.file.record(tag, &[high, low, 0, 0, 0][..length]);
 }
 
 /// A call that begins the date. It gives the minutes that it ends.
-fn first_call(generator: &mut Generator, halted: bool) -> usize {
+pub fn first_call(generator: &mut Generator, halted: bool) -> usize {
     match generator.random.below(7) {
         0 => {
             generator.quiet_minutes(1);

@@ -149,13 +149,13 @@ fn any_field(generator: &mut Generator) {
         }
         5 => generator.any_length_of_day(),
         _ => {
-            let set_price = edge_price(generator);
-            generator.file.fix(set_price);
+            let price = edge_price(generator);
+            generator.any_fix(price);
         }
     }
 }
 
-fn edge_price(generator: &mut Generator) -> u32 {
+pub fn edge_price(generator: &mut Generator) -> u32 {
     let near = generator.near_ticked_price();
     generator.random.pick(&[
         0,

@@ -68,7 +68,7 @@ pub fn half_pennies(generator: &mut Generator) {
         };
         disturbed_start(generator, INDEX);
         generator.file.quote(futures - 10, futures + 10);
-        generator.file.minute_ends(length - 2, INDEX);
+        generator.minute_ends(length - 2, INDEX);
         let odd = 2 * generator.random.below(20) + 1;
         let price = (odd * unit / u32::from(generator.size)).max(5_000);
         half_penny_fix(generator, price);
@@ -91,11 +91,11 @@ fn half_penny_fix(generator: &mut Generator, price: u32) {
         generator.trade(accounts, SIMPLE, 2, price);
     }
     generator.file.minute_ends(1, 1_000_000);
-    generator.file.fix(if by_trade { 0 } else { price });
+    generator.fix(if by_trade { 0 } else { price });
     if generator.random.chance(50) {
         generator.trade(accounts, SPREAD, 3, price);
     }
-    generator.file.close();
+    generator.close();
 }
 
 /// Spreads at 0.005 and a tick beyond, with trades at, within and outside them.

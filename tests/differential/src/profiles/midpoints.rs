@@ -19,7 +19,7 @@ pub fn quiet_last_minutes(generator: &mut Generator) {
         generator.quiet_minutes(1);
         changes(generator, 2);
         fix_twice(generator);
-        generator.file.close();
+        generator.close();
     }
 }
 
@@ -91,10 +91,10 @@ fn other_trade(generator: &mut Generator) {
 /// Mostly without a set price, then with one.
 fn fix_twice(generator: &mut Generator) {
     if generator.random.chance(80) {
-        generator.file.fix(0);
+        generator.fix(0);
     }
     let set_price = generator.near_price();
-    generator.file.fix(set_price);
+    generator.fix(set_price);
 }
 
 /// Few milliseconds, or equal shares of the minute, so that averages end in a half.
@@ -109,7 +109,7 @@ pub fn half_cents(generator: &mut Generator) {
         shares_of_the_minute(generator);
         generator.quiet_minutes(1);
         fix_twice(generator);
-        generator.file.close();
+        generator.close();
     }
 }
 
@@ -168,7 +168,7 @@ pub fn times_of_a_minute(generator: &mut Generator) {
             one_millisecond_back(generator);
         }
         times(generator);
-        generator.file.close();
+        generator.close();
     }
 }
 

@@ -68,14 +68,17 @@ fn fix_and_close(generator: &mut Generator) {
         any_set(generator);
     }
     if generator.random.chance(60) {
-        generator.file.fix(0);
+        generator.fix(0);
     }
     let set_price = generator.near_price();
-    generator.file.fix(set_price);
+    generator.fix(set_price);
     for _ in 0..generator.random.below(3) {
         good_set(generator);
     }
-    generator.file.close();
+    if generator.random.chance(10) {
+        generator.file.halt();
+    }
+    generator.close();
 }
 
 fn any_set(generator: &mut Generator) {
@@ -221,6 +224,29 @@ fn refused_set(generator: &mut Generator) {
         _ => generator.with_bad_trades(&good),
     };
     generator.set(&trades);
+}
+
+/// Sets on a final date, between its fix and its close, and after its end.
+pub fn final_dates(generator: &mut Generator) {
+    if generator.random.chance(40) {
+        good_set(generator);
+        generator.quiet_minutes(FULL_DAY.into());
+        fix_and_close(generator);
+    }
+    if generator.random.chance(20) {
+        good_set(generator);
+        generator.late_final_date();
+        return;
+    }
+    for _ in 0..generator.random.below(3) {
+        refused_set(generator);
+    }
+    let length = generator.final_date();
+    calls(generator, 4);
+    generator.quiet_minutes(length);
+    fix_and_close(generator);
+    sets_in_halts(generator);
+    generator.any_trade();
 }
 
 /// Sets of all kinds of trades around a market, in any minute and in the last.

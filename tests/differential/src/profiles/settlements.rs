@@ -59,16 +59,17 @@ pub fn index_days(generator: &mut Generator) {
             generator.file.quote(0, 0);
         }
         let index = last_index(generator);
-        generator.file.minute_ends(1, index).fix(0);
+        generator.file.minute_ends(1, index);
+        generator.fix(0);
         if generator.random.chance(60) {
             let set_price = last_index(generator);
-            generator.file.fix(set_price);
+            generator.fix(set_price);
         }
         if generator.random.chance(70) {
             let set_price = generator.near_price();
-            generator.file.fix(set_price);
+            generator.fix(set_price);
         }
-        generator.file.close();
+        generator.close();
     }
 }
 
@@ -122,7 +123,8 @@ pub fn round_trips(generator: &mut Generator) {
             generator.tight_quote();
         }
         generator.quiet_minutes(length);
-        generator.file.fix(price).close();
+        generator.fix(price);
+        generator.close();
     }
 }
 
@@ -142,10 +144,10 @@ pub fn carried_halts(generator: &mut Generator) {
         if halt_first {
             generator.file.halt();
         }
-        generator.file.fix(set_price);
+        generator.fix(set_price);
         if !halt_first && generator.random.chance(60) {
             generator.file.halt();
         }
-        generator.file.close();
+        generator.close();
     }
 }

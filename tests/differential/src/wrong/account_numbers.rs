@@ -201,7 +201,7 @@ impl FileRules for ListsOf256Needed {
 }
 
 /// The records of this tag are unknown.
-pub struct UnknownTag(u8);
+pub struct UnknownTag(pub u8);
 
 impl FileRules for UnknownTag {
     fn body_length(&self, tag: u8) -> Option<usize> {

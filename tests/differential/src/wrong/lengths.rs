@@ -75,7 +75,7 @@ pub struct LengthAfter(pub fn(Call) -> bool);
 impl RefusalRules for LengthAfter {
     fn begins_date(&self, call: Call) -> bool {
         match call {
-            Call::Fix(_) => true,
+            Call::Fix(_) | Call::FinalFix(_) => true,
             _ => RightLedger.begins_date(call) && !self.0(call),
         }
     }

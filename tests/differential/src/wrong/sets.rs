@@ -4,6 +4,7 @@ mod checks;
 mod effects;
 mod limits;
 
+use super::expiry::{in_expiry, SetsAfterTheEnd};
 use super::{in_calls, in_midpoints, in_refusals, WrongLedger};
 use checks::*;
 use effects::*;
@@ -27,8 +28,12 @@ const fn with_sets(wrong: WrongLedger) -> WrongLedger {
     WrongLedger { rules, ..wrong }
 }
 
-pub static WITH_SETS: [WrongLedger; 77] = [
-    // Order, halt and length.
+pub static WITH_SETS: [WrongLedger; 82] = [
+    // Order, end, halt and length.
+    with_sets(in_expiry("sets-after-end", &SetsAfterTheEnd)),
+    in_sets("set-halt-before-day", &HALT_BEFORE_DAY),
+    in_sets("set-length-before-day", &LENGTH_BEFORE_DAY),
+    in_sets("set-field-before-day", &FIELD_BEFORE_DAY),
     in_sets("set-length-before-halt", &LENGTH_BEFORE_HALT),
     in_sets("set-field-before-halt", &FIELD_BEFORE_HALT),
     in_sets("set-account-before-halt", &ACCOUNT_BEFORE_HALT),
@@ -124,6 +129,7 @@ pub static WITH_SETS: [WrongLedger; 77] = [
         &SetAfterFixWithoutAmount,
     )),
     with_sets(in_refusals("length-after-set", &LENGTH_AFTER_SET)),
+    with_sets(in_expiry("final-date-after-set", &FINAL_DATE_AFTER_SET)),
     with_sets(in_refusals(
         "refused-set-begins-date",
         &REFUSED_SET_BEGINS_DATE,

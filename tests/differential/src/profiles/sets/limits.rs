@@ -29,7 +29,8 @@ pub fn limits(generator: &mut Generator) {
         sets_near_limits(generator);
         generator.quiet_minutes(length);
         let set_price = generator.near_price();
-        generator.file.fix(set_price).close();
+        generator.fix(set_price);
+        generator.close();
     }
 }
 

@@ -41,6 +41,9 @@ impl SetRules for Before {
     }
 }
 
+pub static HALT_BEFORE_DAY: Before = Before(4, 3);
+pub static LENGTH_BEFORE_DAY: Before = Before(13, 3);
+pub static FIELD_BEFORE_DAY: Before = Before(5, 3);
 pub static LENGTH_BEFORE_HALT: Before = Before(13, 4);
 pub static FIELD_BEFORE_HALT: Before = Before(5, 4);
 pub static ACCOUNT_BEFORE_HALT: Before = Before(12, 4);

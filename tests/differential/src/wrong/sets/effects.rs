@@ -1,5 +1,6 @@
 //! Wrong effects of a set: of a refused one, of its list, and of its trades.
 
+use crate::wrong::expiry::FinalDateAfter;
 use crate::wrong::lengths::{DateBegunBy, LengthAfter};
 use crate::wrong::of_tag::{is_trade_of, LastOf, NoCostOf, SettlementOf, VolumeOf};
 use crate::wrong::times::TimeResetBy;
@@ -128,6 +129,7 @@ impl CallRules for SetAfterFixWithoutAmount {
 }
 
 pub static LENGTH_AFTER_SET: LengthAfter = LengthAfter(|call| is_trade_of(call, TAG));
+pub static FINAL_DATE_AFTER_SET: FinalDateAfter = FinalDateAfter(|call| is_trade_of(call, TAG));
 pub static REFUSED_SET_BEGINS_DATE: DateBegunBy =
     DateBegunBy(|record| matches!(record, Record::Set(_)));
 pub static TIME_RESET_BY_SET: TimeResetBy = TimeResetBy(|call| is_trade_of(*call, TAG));
