@@ -4,6 +4,7 @@ use differential::profiles::{input, long_input, set_input};
 use differential::wrong::{WrongLedger, ALL, OF_EXPIRY, WITH_SETS};
 use reference::call::Call;
 use reference::file::{records, Record};
+use reference::history::Day;
 use reference::play::{Answer, Played};
 use reference::printout::bench_text;
 use reference::rules::{CallRules, Rules};
@@ -133,6 +134,18 @@ fn every_wrong_ledger_of_expiry_is_told_apart() {
 #[test]
 fn every_wrong_ledger_of_sets_is_told_apart() {
     assert_none(&INPUTS_WITH_SETS.never_told_apart());
+}
+
+/// Its last closed day is then the last that a book holds.
+#[test]
+fn a_long_file_may_end_with_a_final_date() {
+    let played = run(Rules::RIGHT, &long_input(2)).expect("the size is good");
+    let last = played.history.last_closed_day();
+    assert_eq!(played.history.closed_days(), 2_600);
+    assert!(last.is_some_and(Day::is_final));
+    let (positions, cash) = played.report();
+    assert!(positions.iter().all(|position| *position == 0));
+    assert!(cash.iter().any(|cash| *cash != 0));
 }
 
 /// Asserts that some file counts for each of these numbers, and none for another.

@@ -42,7 +42,7 @@ static HALT_BEFORE_DAY: CheckMoved = CheckMoved(&HALT_FIRST);
 static TAG_11_UNKNOWN: UnknownTag = UnknownTag(tag::FINAL_DATE);
 static TAG_12_UNKNOWN: UnknownTag = UnknownTag(tag::FINAL_FIX);
 
-pub static OF_EXPIRY: [WrongLedger; 80] = [
+pub static OF_EXPIRY: [WrongLedger; 81] = [
     // Last Fridays and months.
     in_expiry("fourth-friday", &FourthFriday),
     in_expiry("month-printed", &MonthPrinted),
@@ -147,6 +147,7 @@ pub static OF_EXPIRY: [WrongLedger; 80] = [
     in_expiry("lengths-after-end", &LENGTHS),
     in_expiry("final-dates-after-end", &FINAL_DATES),
     in_expiry("end-forgotten", &EndForgotten),
+    in_expiry("ended-by-final-fix", &EndedByFinalFix),
     in_refusals("halt-before-day", &HALT_BEFORE_DAY),
     // Files and printouts.
     in_files("tag-11-unknown", &TAG_11_UNKNOWN),

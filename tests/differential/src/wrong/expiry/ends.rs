@@ -152,6 +152,17 @@ impl ExpiryRules for EndForgotten {
     }
 }
 
+/// Nothing but the close comes between the fix of a final date and its close.
+pub struct EndedByFinalFix;
+
+impl ExpiryRules for EndedByFinalFix {
+    fn end_forbids(&self, history: &History, call: Call) -> bool {
+        let day = history.open_day();
+        let is_fixed = day.is_final() && day.is_fixed();
+        RightLedger.end_forbids(history, call) || is_fixed && call != Call::Close
+    }
+}
+
 pub struct SetsAfterTheEnd;
 
 impl ExpiryRules for SetsAfterTheEnd {
