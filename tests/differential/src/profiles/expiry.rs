@@ -147,8 +147,8 @@ pub fn starts_of_dates(generator: &mut Generator) {
     }
 }
 
-/// Months at the edges of the table, in it and outside, on a date that hardly starts, mostly before the call
-/// that begins it.
+/// Months at the edges of the table, in it and outside, on a date that hardly starts, now and then after the
+/// call that begins it.
 pub fn months(generator: &mut Generator) {
     for _ in 0..generator.random.below(9) {
         match generator.random.below(8) {

@@ -28,10 +28,10 @@ pub const fn in_expiry(name: &'static str, expiry: &'static dyn ExpiryRules) -> 
     WrongLedger { name, rules }
 }
 
-/// The other length on a final date, else the right one.
-fn moved_for(day: &Day, right: usize, on_final_date: usize) -> usize {
+/// The wrong length if the date is final, else the right one.
+fn length_of(day: &Day, right: usize, wrong: usize) -> usize {
     match day.is_final() {
-        true => on_final_date,
+        true => wrong,
         false => right,
     }
 }

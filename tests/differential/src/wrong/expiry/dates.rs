@@ -1,6 +1,6 @@
 //! Wrong final dates: where their call may come, and what goes by their length.
 
-use super::moved_for;
+use super::length_of;
 use crate::wrong::lengths::{DateBegunBy, LengthAfter, Lengths};
 use crate::wrong::of_tag::is_trade_of;
 use crate::wrong::refusals::{moved, CheckMoved, Order};
@@ -136,7 +136,7 @@ pub struct FinalMinuteEndsTo1320;
 
 impl RefusalRules for FinalMinuteEndsTo1320 {
     fn minute_end_is_late(&self, day: &Day, length: usize) -> bool {
-        RightLedger.minute_end_is_late(day, moved_for(day, length, FULL_DAY.into()))
+        RightLedger.minute_end_is_late(day, length_of(day, length, FULL_DAY.into()))
     }
 }
 
@@ -145,7 +145,7 @@ pub struct FinalFixFrom(usize);
 
 impl RefusalRules for FinalFixFrom {
     fn fix_is_early(&self, day: &Day, length: usize) -> bool {
-        RightLedger.fix_is_early(day, moved_for(day, length, self.0))
+        RightLedger.fix_is_early(day, length_of(day, length, self.0))
     }
 }
 
