@@ -1,19 +1,22 @@
 //! A book that its calls change in place.
 
+mod expiry;
+mod fixing;
 mod sets;
 
 pub use sets::MOST_TRADES;
 
 use crate::market::{Market, Midpoints, MINUTE};
 use crate::price::is_price;
-use crate::settlement::{amount, average, basis, rate};
+use crate::settlement::basis;
 use crate::trade::{Trade, ACCOUNTS};
 use dayformat::kind::SIMPLE;
-use reference::refusal::{ACCOUNT, CROSSED, DAY, FIELD, HALT, NO_PRICE, POSITION, TIME, VOLUME};
+use reference::refusal::{ACCOUNT, CROSSED, DAY, FIELD, HALT, POSITION, TIME, VOLUME};
 
 /// The lengths of a day, in minutes.
 pub const FULL_DAY: u32 = 1_320;
 pub const SHORT_DAY: u32 = 1_140;
+const FINAL_DAY: u32 = 1_020;
 const MOST_DAYS: u32 = 2_600;
 const MOST_VOLUME: u32 = 2_000_000;
 const MOST_POSITION: i64 = 1_200_000;
@@ -27,6 +30,8 @@ struct Day {
     left: u32,
     /// Set by a call after which a length is late, but for a minute end, which is seen by `left`.
     begun: bool,
+    /// The last date of the contract.
+    is_final: bool,
     valid: u32,
     weighted: i64,
     market: Market,
@@ -44,7 +49,8 @@ struct Day {
 
 pub struct Book {
     size: i64,
-    closed: u32,
+    /// The days that can still close: none once the contract has ended.
+    days_left: u32,
     halted: bool,
     previous_price: u32,
     previous_index: u32,
@@ -103,7 +109,7 @@ impl Book {
     pub fn open(size: u8) -> Self {
         Book {
             size: size.into(),
-            closed: 0,
+            days_left: MOST_DAYS,
             halted: false,
             previous_price: 0,
             previous_index: 0,
@@ -116,12 +122,13 @@ impl Book {
         }
     }
 
-    fn is_full(&self) -> bool {
-        self.closed >= MOST_DAYS
+    /// Whether no call is accepted any more.
+    fn is_over(&self) -> bool {
+        self.days_left == 0
     }
 
     pub fn set_length(&mut self, minutes: u16) -> Answer {
-        refused_if(self.is_full() || self.day.has_begun(), DAY)?;
+        refused_if(self.is_over() || self.day.has_begun(), DAY)?;
         let left = u32::from(minutes);
         refused_if(left != FULL_DAY && left != SHORT_DAY, FIELD)?;
         self.day.left = left;
@@ -131,7 +138,7 @@ impl Book {
 
     #[inline]
     pub fn quote(&mut self, market: Market) -> Answer {
-        refused_if(self.is_full(), DAY)?;
+        refused_if(self.is_over(), DAY)?;
         refused_if(self.halted, HALT)?;
         refused_if(!market.is_in_field(), FIELD)?;
         refused_if(market.is_crossed(), CROSSED)?;
@@ -143,7 +150,7 @@ impl Book {
     #[inline]
     pub fn timed_quote(&mut self, time: u16, market: Market) -> Answer {
         let time = u32::from(time);
-        refused_if(self.is_full(), DAY)?;
+        refused_if(self.is_over(), DAY)?;
         refused_if(self.halted, HALT)?;
         refused_if(time >= MINUTE || !market.is_in_field(), FIELD)?;
         refused_if(time < self.day.time, TIME)?;
@@ -161,7 +168,7 @@ impl Book {
     /// long.
     #[inline(always)]
     pub fn trade(&mut self, trade: Trade) -> Answer {
-        refused_if(self.is_full(), DAY)?;
+        refused_if(self.is_over(), DAY)?;
         refused_if(self.halted, HALT)?;
         test_by_itself(trade)?;
         let (buyer, seller) = trade.accounts();
@@ -201,7 +208,7 @@ impl Book {
     }
 
     pub fn halt(&mut self) -> Answer {
-        refused_if(self.is_full(), DAY)?;
+        refused_if(self.is_over(), DAY)?;
         refused_if(self.halted, HALT)?;
         self.halted = true;
         self.day.begun = true;
@@ -211,7 +218,7 @@ impl Book {
     }
 
     pub fn resume(&mut self) -> Answer {
-        refused_if(self.is_full(), DAY)?;
+        refused_if(self.is_over(), DAY)?;
         refused_if(!self.halted, HALT)?;
         self.halted = false;
         self.day.begun = true;
@@ -221,7 +228,7 @@ impl Book {
     #[inline]
     pub fn minute_end(&mut self, index: u32) -> Answer {
         let over = self.day.left == 0 || self.day.price != 0;
-        refused_if(self.is_full() || over, DAY)?;
+        refused_if(self.is_over() || over, DAY)?;
         refused_if(index != 0 && !is_price(index), FIELD)?;
         let day = &mut self.day;
         if !self.halted && index != 0 && day.minute.is_valid() {
@@ -242,36 +249,8 @@ impl Book {
         Ok(())
     }
 
-    pub fn fix(&mut self, set_price: u32) -> Answer {
-        let early = self.day.left != 0 || self.day.price != 0;
-        refused_if(self.is_full() || early, DAY)?;
-        refused_if(set_price != 0 && !is_price(set_price), FIELD)?;
-        let price = self.settlement_price(set_price).ok_or(NO_PRICE)?;
-        let rate = rate(self.day.valid, self.day.weighted);
-        self.day.price = price;
-        self.day.amount = amount(rate, price, self.size);
-        Ok(())
-    }
-
-    fn settlement_price(&self, set_price: u32) -> Option<u32> {
-        if set_price != 0 {
-            return Some(set_price);
-        }
-        let day = &self.day;
-        average(day.gross, day.contracts)
-            .or_else(|| day.midpoints.average())
-            .or_else(|| self.index_price())
-    }
-
-    fn index_price(&self) -> Option<u32> {
-        let (index, price, subtracted) = (self.day.index, self.previous_price, self.previous_index);
-        let given = index != 0 && price != 0 && subtracted != 0;
-        let sum = (index + price).checked_sub(subtracted)?;
-        (given && is_price(sum)).then_some(sum)
-    }
-
     pub fn close(&mut self) -> Answer {
-        refused_if(self.is_full() || self.day.price == 0, DAY)?;
+        refused_if(self.is_over() || self.day.price == 0, DAY)?;
         let size = self.size;
         let per_contract = i64::from(self.day.price) * size + self.day.amount * 100;
         let previous = i64::from(self.previous_price) * size;
@@ -286,7 +265,10 @@ impl Book {
         self.volume = [0; ACCOUNTS];
         self.previous_price = self.day.price;
         self.previous_index = self.day.index;
-        self.closed += 1;
+        self.days_left -= 1;
+        if self.day.is_final {
+            self.end();
+        }
         self.day = Day::new();
         Ok(())
     }

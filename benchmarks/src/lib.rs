@@ -4,6 +4,7 @@
 #![forbid(unsafe_code)]
 
 mod book;
+mod fridays;
 pub mod inputs;
 mod market;
 mod play;
@@ -12,5 +13,6 @@ pub mod sets;
 mod settlement;
 mod trade;
 
+pub use fridays::last_friday;
 pub use play::{answers, run};
 pub use trade::ACCOUNTS;

@@ -99,6 +99,13 @@ fn call<'a>(book: &mut Book, file: &'a [u8]) -> Option<(Answer, &'a [u8])> {
         [tag::LENGTH_OF_DAY, 0, length::LENGTH_OF_DAY, a, b, ref next @ ..] => {
             (book.set_length(u16::from_be_bytes([a, b])), next)
         }
+        [tag::FINAL_DATE, 0, length::FINAL_DATE, a, b, month, ref next @ ..] => {
+            let year = u16::from_be_bytes([a, b]);
+            (book.final_date(year, month).map(|_friday| ()), next)
+        }
+        [tag::FINAL_FIX, 0, length::FINAL_FIX, a, b, c, d, ref next @ ..] => {
+            (book.final_fix(number([a, b, c, d])), next)
+        }
         _ => return None,
     })
 }

@@ -51,3 +51,8 @@ pub fn average(sum: u64, weight: u32) -> Option<u32> {
         _ => Some(half_even(sum as i64, weight.into()) as u32),
     }
 }
+
+/// The value to the nearest 10 cents, a tie to the even dime.
+pub fn to_dime(value: u32) -> u32 {
+    half_even(value.into(), 10) as u32 * 10
+}

@@ -11,7 +11,7 @@ impl Book {
     /// The trades are booked as they are tested, and taken back where the set is refused: tested first
     /// and then booked, they took 1.3 times as long, and booked on a copy of the book 1.8 times.
     pub fn trade_set(&mut self, trades: &[Trade]) -> Answer {
-        refused_if(self.is_full(), DAY)?;
+        refused_if(self.is_over(), DAY)?;
         refused_if(self.halted, HALT)?;
         let is_length = (1..=MOST_TRADES).contains(&trades.len());
         refused_if(!is_length, SET_LENGTH)?;
