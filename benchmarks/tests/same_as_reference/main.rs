@@ -1,37 +1,20 @@
 //! The ledger that is timed gives the reference's answers, record by record.
 
 mod common;
+mod expiry;
+mod sets;
 
 use benchmarks::{answers, run, ACCOUNTS};
-use common::{answers_of, UNTOUCHED};
+use common::same_run;
 use dayformat::Writer;
 use differential::profiles;
 use differential::random::Random;
-use reference::play::play;
-use reference::rules::Rules;
-use reference::{c_run_of, size_and_records};
 use std::collections::BTreeSet;
-
-fn expect_same(name: &str, input: &[u8]) {
-    let (size, file) = size_and_records(input);
-    let mut lists = (UNTOUCHED, UNTOUCHED);
-    let accepted = run(size, file, &mut lists.0, &mut lists.1);
-    let played = play(size, file, Rules::RIGHT);
-    let (expected, expected_lists) = c_run_of(played.as_ref());
-    assert_eq!(accepted, expected, "{name}: accepted records");
-    let untouched = (UNTOUCHED, UNTOUCHED);
-    assert!(
-        lists == expected_lists.unwrap_or(untouched),
-        "{name}: lists"
-    );
-    let expected = answers_of(played.as_ref());
-    assert!(answers(size, file) == expected, "{name}: answers");
-}
 
 #[test]
 fn generated_files() {
     for seed in 0..600 {
-        expect_same(&format!("seed {seed}"), &profiles::input(seed));
+        same_run(&format!("seed {seed}"), &profiles::input(seed));
     }
 }
 
@@ -56,7 +39,7 @@ fn days_of_both_lengths() {
             .trade((7, 9), 0, 5, 200_100)
             .close();
     }
-    expect_same("both lengths", &[&[10], &file.bytes[..]].concat());
+    same_run("both lengths", &[&[10], &file.bytes[..]].concat());
 }
 
 /// Markets in field and not: wide, narrow, at both ends of the prices, one-sided, none, crossed, and
@@ -121,7 +104,7 @@ fn days_settled_by_midpoints() {
             add_day_without_late_trades(&mut file, &mut random);
         }
         let input = [&[10], &file.bytes[..]].concat();
-        expect_same(&format!("midpoints {number}"), &input);
+        same_run(&format!("midpoints {number}"), &input);
     }
 }
 
@@ -172,7 +155,7 @@ fn trades_with_two_byte_accounts() {
             add_traded_day(&mut file, &mut random);
         }
         let input = [&[10], &file.bytes[..]].concat();
-        expect_same(&format!("two-byte accounts {number}"), &input);
+        same_run(&format!("two-byte accounts {number}"), &input);
         let answers = answers(10, &file.bytes);
         met.extend(answers.into_iter().flatten().filter_map(Result::err));
     }
@@ -181,7 +164,7 @@ fn trades_with_two_byte_accounts() {
 
 #[test]
 fn more_than_2600_days() {
-    expect_same("long", &profiles::long_input(1));
+    same_run("long", &profiles::long_input(1));
 }
 
 #[test]

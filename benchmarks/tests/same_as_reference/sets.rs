@@ -1,36 +1,21 @@
 //! The ledger that is timed takes sets as the reference does, and the trades that are timed are accepted.
 
-mod common;
-
+use crate::common::same_run_with_sets;
 use benchmarks::sets;
-use common::{answers_of, UNTOUCHED};
 use dayformat::Writer;
 use differential::profiles;
 use reference::file::{records, Record};
-use reference::play::play;
 use reference::rules::Rules;
-use reference::{c_run_of, size_and_records};
+use reference::size_and_records;
 use std::collections::BTreeSet;
-
-/// The answers to an input, the same as the reference's, as the lists are.
-fn same_answers(name: &str, input: &[u8]) -> Vec<Option<Result<(), u8>>> {
-    let (size, file) = size_and_records(input);
-    let mut lists = (UNTOUCHED, UNTOUCHED);
-    let answers = sets::answers_with_sets(size, file, &mut lists.0, &mut lists.1);
-    let played = play(size, file, Rules::WITH_SETS);
-    let (_, expected_lists) = c_run_of(played.as_ref());
-    let expected_lists = expected_lists.unwrap_or((UNTOUCHED, UNTOUCHED));
-    assert!(lists == expected_lists, "{name}: lists");
-    assert!(answers == answers_of(played.as_ref()), "{name}: answers");
-    answers
-}
 
 /// The numbers of the refusals that the sets of an input meet.
 fn refusals_of_sets(name: &str, input: &[u8]) -> BTreeSet<u8> {
-    let answers = same_answers(name, input).into_iter();
+    let (answers, _) = same_run_with_sets(name, input);
     let (_, file) = size_and_records(input);
     let records = records(file, Rules::WITH_SETS.files);
     answers
+        .into_iter()
         .zip(records)
         .filter(|(_, record)| matches!(record, Record::Set(_)))
         .filter_map(|(answer, _)| answer?.err())
@@ -92,9 +77,8 @@ fn refused_sets_leave_the_book_as_it_was() {
         &[Ok(()), Ok(())],
     ];
     let expected = expected.concat().into_iter().map(Some);
-    assert!(same_answers("refused sets", &input)
-        .into_iter()
-        .eq(expected));
+    let (answers, _) = same_run_with_sets("refused sets", &input);
+    assert!(answers.into_iter().eq(expected));
 }
 
 /// 3 comes before all others.
@@ -108,7 +92,7 @@ fn sets_after_2600_days() {
     add_refused_sets(&mut file);
     add_set(&mut file, &[GOOD]);
     let input = [&[10], &file.bytes[..]].concat();
-    let answers = same_answers("2,600 days", &input);
+    let (answers, _) = same_run_with_sets("2,600 days", &input);
     assert_eq!(answers[answers.len() - 7..], [Some(Err(3)); 7]);
 }
 
