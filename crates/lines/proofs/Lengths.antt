@@ -1,5 +1,5 @@
 -- How long the lines are.
---     refused_short, day_short      those of a refusal and of a fix
+--     refused_short, day_short, final_short      those of a refusal, of a fix and of a final date
 --     account_short, accounts_short      those of one and of all accounts
 -- Assumes nothing.
 use mathlib.Core.List.{List}
@@ -11,7 +11,7 @@ use Rattle.std.proofs.lemmas.Bool.{cond_both}
 use Rattle.text.proofs.Lengths.{decimal_short, signed_short}
 use Rattle.figures.specs.declared.Fixing.{Fixing}
 use Rattle.columns.specs.Columns.{entry}
-use Rattle.lines.specs.Lines.{refused_line, day_line, account_line, is_printed, printed_account, account_lines}
+use Rattle.lines.specs.Lines.{refused_line, day_line, final_line, account_line, is_printed, printed_account, account_lines}
 
 abbrev pub longest_account : ℕ
 longest_account = 211
@@ -21,6 +21,9 @@ refused_short number place = simp length-append (omega (arith, decimal_short num
 
 pub day_short : (day : ℕ) (f : Fixing) → length (day_line day f) ≤ 355
 day_short day f = simp length-append (omega (arith, decimal_short day, decimal_short f.price, signed_short f.rate, signed_short f.amount, decimal_short f.valid))
+
+pub final_short : (friday : ℕ) → length (final_line friday) ≤ 71
+final_short friday = simp length-append (omega (arith, decimal_short friday))
 
 line_short : (account : ℕ) (position cash : ℤ) → length (account_line account position cash) ≤ longest_account
 line_short account position cash = simp length-append (omega (arith, decimal_short account, signed_short position, signed_short cash))

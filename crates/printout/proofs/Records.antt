@@ -18,7 +18,7 @@ use Rattle.text.specs.Text.{Room}
 use Rattle.std.proofs.lemmas.Bool.{cond_both}
 use Rattle.lines.specs.Lines.{refused_line}
 use Rattle.ledger.specs.Step.{opening}
-use Rattle.lines.proofs.Lengths.{longest_account, refused_short, day_short, accounts_short}
+use Rattle.lines.proofs.Lengths.{longest_account, refused_short, day_short, final_short, accounts_short}
 use Rattle.columns.specs.Columns.{accounts}
 use Rattle.ledger.specs.declared.Book.{Book}
 use Rattle.std.specs.Prelude.{Option, Some, None}
@@ -39,6 +39,7 @@ text_short : (p : Option Printed) (c : Columns) → length (text_of p c) ≤ lon
 text_short None c = omega arith
 text_short (Some (printed.Refused number place)) c = omega (arith, refused_short number place)
 text_short (Some (printed.Day day fixing)) c = omega (arith, day_short day fixing)
+text_short (Some (printed.Final friday)) c = omega (arith, final_short friday)
 text_short (Some printed.Accounts) c = accounts_short accounts c.position c.cash
 
 -- a file has no more records than bytes
