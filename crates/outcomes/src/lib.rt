@@ -6,7 +6,8 @@ ghost use Rattle.refusals.specs.Refusals.{most_days};
 ghost use Rattle.day_effects.specs.Inner.{RoomForTrade};
 ghost use Rattle.figures.specs.Figures.{tenth, outcome_of, figures_hold};
 ghost use Rattle.figures.specs.Fixing.{Fixable};
-ghost use Rattle.outcomes.specs.Effects.{with_begun_day, figures_after};
+ghost use Rattle.day_effects.specs.Effects.{with_fixed, with_length};
+ghost use Rattle.outcomes.specs.Effects.{with_day, with_begun_day, figures_after};
 ghost use Rattle.outcomes.specs.Outcome.{outcome};
 
 use calls::{Call, FINAL_DAY, TimedQuote, Trade};
@@ -76,12 +77,19 @@ pub fn resume(figures: &mut Figures) -> Outcome
     Ok(Found::Nothing)
 }
 
+// The day has so many minutes, and the date has begun.
+fn set_length(figures: &mut Figures, minutes: u32)
+    ensures { figures.new ≡ with_begun_day figures.old figures.old.halted (with_length figures.old.day minutes) }
+{
+    figures.day.session.length = minutes;
+    begin(figures);
+}
+
 pub fn day_length(figures: &mut Figures, minutes: u32) -> Outcome
     ensures { outcome_of result figures.new ≡ outcome figures.old (Call.DayLength minutes) }
 {
     refusals::day_length(figures.day.session.begun | figures.is_over(), minutes)?;
-    figures.day.session.length = minutes;
-    begin(figures);
+    set_length(figures, minutes);
     Ok(Found::Nothing)
 }
 
@@ -101,6 +109,14 @@ pub fn minute_end(figures: &mut Figures, index: u32) -> Outcome
     Ok(Found::Nothing)
 }
 
+// The day is fixed by what a fix found.
+fn set_fixed(figures: &mut Figures, fixing: Fixing)
+    ensures { figures.new ≡ with_day figures.old figures.old.halted (with_fixed figures.old.day (record { price = fixing.price; amount = fixing.amount })) }
+{
+    let Fixing { price, amount, .. } = fixing;
+    figures.day.fixed = Fixed { price, amount };
+}
+
 pub fn fix(figures: &mut Figures, set: u32) -> Outcome
     requires { Fixable figures.old }
     ensures { outcome_of result figures.new ≡ outcome figures.old (Call.Fix set) }
@@ -108,8 +124,7 @@ pub fn fix(figures: &mut Figures, set: u32) -> Outcome
     let day = figures.day;
     let fixing = figures.fixing(set);
     refusals::fix(day.forbids_fix() | figures.is_over(), set, fixing.price)?;
-    let Fixing { price, amount, .. } = fixing;
-    figures.day.fixed = Fixed { price, amount };
+    set_fixed(figures, fixing);
     Ok(Found::Fixing(fixing))
 }
 
@@ -118,8 +133,7 @@ pub fn final_date(figures: &mut Figures, month: Month) -> Outcome
     ensures { outcome_of result figures.new ≡ outcome figures.old (Call.FinalDate month) }
 {
     refusals::final_date(figures.day.session.begun | figures.is_over(), month)?;
-    figures.day.session.length = FINAL_DAY;
-    begin(figures);
+    set_length(figures, FINAL_DAY);
     Ok(Found::Friday(month.last_friday()))
 }
 
@@ -131,8 +145,7 @@ pub fn final_fix(figures: &mut Figures, value: u32) -> Outcome
     let day = figures.day;
     refusals::final_fix(day.forbids_final_fix() | figures.is_over(), value)?;
     let fixing = figures.final_fixing(value);
-    let Fixing { price, amount, .. } = fixing;
-    figures.day.fixed = Fixed { price, amount };
+    set_fixed(figures, fixing);
     Ok(Found::Fixing(fixing))
 }
 
