@@ -83,6 +83,8 @@ impl fmt::Display for Record {
             Record::Fix { price } => write!(formatter, "fix {price}"),
             Record::Close => write!(formatter, "close"),
             Record::LengthOfDay { minutes } => write!(formatter, "length {minutes}"),
+            Record::FinalDate { year, month } => write!(formatter, "final {year} {month}"),
+            Record::FinalFix { hourly } => write!(formatter, "hourly {hourly}"),
             Record::Other { tag, body } => write!(formatter, "record {tag}{}", Bytes(body)),
         }
     }

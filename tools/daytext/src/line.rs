@@ -53,6 +53,7 @@ impl Words<'_> {
     fn record(&mut self, first: &str) -> Result<Record, String> {
         match first {
             "length" => self.length_of_day(),
+            "final" => self.final_date(),
             "trade" => self.trade(),
             "quote" => self.quote(),
             "minute" => Ok(Record::MinuteEnd {
@@ -61,11 +62,12 @@ impl Words<'_> {
             "halt" => Ok(Record::Halt),
             "resume" => Ok(Record::Resume),
             "fix" => self.fix(),
+            "hourly" => self.final_fix(),
             "close" => Ok(Record::Close),
             "record" => self.other(),
             _ => Err(format!(
-                "\"{first}\" begins no line; expected size, length, quote, trade, minute, \
-                 halt, resume, fix, close, record or bytes"
+                "\"{first}\" begins no line; expected size, length, final, quote, trade, \
+                 minute, halt, resume, fix, hourly, close, record or bytes"
             )),
         }
     }
@@ -73,6 +75,12 @@ impl Words<'_> {
     fn length_of_day(&mut self) -> Result<Record, String> {
         let minutes = self.two_bytes("length of day")?;
         Ok(Record::LengthOfDay { minutes })
+    }
+
+    fn final_date(&mut self) -> Result<Record, String> {
+        let year = self.two_bytes("year")?;
+        let month = self.byte("month", "")?;
+        Ok(Record::FinalDate { year, month })
     }
 
     fn quote(&mut self) -> Result<Record, String> {
@@ -136,6 +144,11 @@ impl Words<'_> {
             Some(_) => self.number_or_none("set price")?,
         };
         Ok(Record::Fix { price })
+    }
+
+    fn final_fix(&mut self) -> Result<Record, String> {
+        let hourly = self.number("hourly index value", 0..=u32::MAX, "")?;
+        Ok(Record::FinalFix { hourly })
     }
 
     fn other(&mut self) -> Result<Record, String> {

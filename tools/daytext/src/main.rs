@@ -21,6 +21,8 @@ The text has one call a line; # begins a comment.
 
   size 10                          first; 1 or 10, or missing for an empty file
   length 1140                      or 1320 minutes, before a date's first call
+  final 2035 10                    year and month of a contract that ends on
+                                   this date; in the place of length
   quote 200100 200300              bid, offer; - for none
   quote 200100 200300 after 30000  with its time, milliseconds into the minute
   trade 3 7 simple 12 at 200200    buyer, seller, kind, quantity, price;
@@ -32,6 +34,7 @@ The text has one call a line; # begins a comment.
   halt
   resume
   fix                              fix 200150 sets the price
+  hourly 200,005                   the fix of a final date, by this index value
   close
   record 200 00 ff                 any tag and body, in hexadecimal
   bytes 02 00                      last; a record that is cut off

@@ -1,7 +1,8 @@
 //! The records of a day file, each with its fields.
 
 use dayformat::tag::{
-    CLOSE, FIX, HALT, LENGTH_OF_DAY, MINUTE_END, QUOTE, RESUME, TIMED_QUOTE, TRADE, TWO_BYTE_TRADE,
+    CLOSE, FINAL_DATE, FINAL_FIX, FIX, HALT, LENGTH_OF_DAY, MINUTE_END, QUOTE, RESUME, TIMED_QUOTE,
+    TRADE, TWO_BYTE_TRADE,
 };
 use dayformat::{header, kind, Writer};
 
@@ -68,6 +69,14 @@ pub enum Record {
         bid: u32,
         offer: u32,
     },
+    FinalDate {
+        year: u16,
+        month: u8,
+    },
+    FinalFix {
+        /// The hourly index value.
+        hourly: u32,
+    },
     /// An unknown tag, or a known one with a wrong length.
     Other {
         tag: u8,
@@ -109,6 +118,13 @@ impl Record {
                 bid: u32::from_be_bytes([c, d, e, f]),
                 offer: u32::from_be_bytes([g, h, i, j]),
             },
+            (FINAL_DATE, &[a, b, month]) => Record::FinalDate {
+                year: u16::from_be_bytes([a, b]),
+                month,
+            },
+            (FINAL_FIX, &[a, b, c, d]) => Record::FinalFix {
+                hourly: u32::from_be_bytes([a, b, c, d]),
+            },
             _ => Record::Other {
                 tag,
                 body: body.to_vec(),
@@ -147,6 +163,8 @@ impl Record {
             Record::Close => file.close(),
             Record::LengthOfDay { minutes } => file.length_of_day(*minutes),
             Record::TimedQuote { time, bid, offer } => file.timed_quote(*time, *bid, *offer),
+            Record::FinalDate { year, month } => file.final_date(*year, *month),
+            Record::FinalFix { hourly } => file.final_fix(*hourly),
             Record::Other { tag, body } => file.record(*tag, body),
         };
         file.bytes

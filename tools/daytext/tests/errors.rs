@@ -16,8 +16,8 @@ fn check(line: &str, expected: &str) {
 fn first_words() {
     check(
         "qoute 200100 200300",
-        "\"qoute\" begins no line; expected size, length, quote, trade, minute, \
-         halt, resume, fix, close, record or bytes",
+        "\"qoute\" begins no line; expected size, length, final, quote, trade, \
+         minute, halt, resume, fix, hourly, close, record or bytes",
     );
 }
 
@@ -34,6 +34,9 @@ const HEXADECIMAL: &str = "expected two hexadecimal digits for each";
 fn missing_values() {
     for (line, name, expected) in [
         ("length", "length of day", TWO_BYTES),
+        ("final", "year", TWO_BYTES),
+        ("final 2035", "month", BYTE),
+        ("hourly", "hourly index value", NUMBER),
         ("quote", "bid", NUMBER_OR_NONE),
         ("quote 200100", "offer", NUMBER_OR_NONE),
         ("quote 1 2 after", "time in milliseconds", TWO_BYTES),
@@ -92,6 +95,23 @@ fn wrong_numbers() {
 }
 
 #[test]
+fn wrong_final_dates() {
+    for (line, found, expected) in [
+        ("final 65,536 10", "year is \"65,536\"", TWO_BYTES),
+        ("final October 2035", "year is \"October\"", TWO_BYTES),
+        ("final 2035 256", "month is \"256\"", BYTE),
+        ("final 2035 -", "month is \"-\"", BYTE),
+        ("final 2035 times 2", "month is \"times\"", BYTE),
+    ] {
+        check(line, &format!("the {found}; {expected}"));
+    }
+    for value in ["4294967296", "-", "200005.0", "times"] {
+        let found = format!("the hourly index value is \"{value}\"; {NUMBER}");
+        check(&format!("hourly {value}"), &found);
+    }
+}
+
+#[test]
 fn wrong_times() {
     check(
         "quote 1 after 5",
@@ -146,6 +166,9 @@ fn words_too_much() {
     let times = ", or times and a number";
     check_too_much("quote 1 2 after 30000 ms", "ms", times);
     check_too_much("length 1140 1320", "1320", times);
+    check_too_much("final 2035 10 26", "26", times);
+    check_too_much("final 2035 10 times 1 26", "26", "");
+    check_too_much("hourly 200005 200015", "200015", times);
     check_too_much("halt now", "now", times);
     check_too_much("halt times 1 now", "now", "");
     check_too_much("halt times 2 times 2", "times", "");

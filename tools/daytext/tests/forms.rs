@@ -26,6 +26,17 @@ fn calls() {
 }
 
 #[test]
+fn final_dates() {
+    check("final 2035 10", &[11, 0, 3, 7, 243, 10]);
+    check("final 2,026\t12 times 2", &[11, 0, 3, 7, 234, 12].repeat(2));
+    check("final 0 0", &[11, 0, 3, 0, 0, 0]);
+    check("final 65_535 255", &[11, 0, 3, 255, 255, 255]);
+    check("hourly 200,005", &[12, 0, 4, 0, 3, 13, 69]);
+    check("hourly 0 times 2", &[12, 0, 4, 0, 0, 0, 0].repeat(2));
+    check("hourly 4_294_967_295", &[12, 0, 4, 255, 255, 255, 255]);
+}
+
+#[test]
 fn timed_quotes() {
     let sides = [0, 3, 13, 164, 0, 3, 14, 108];
     for (milliseconds, high, low) in [
@@ -121,14 +132,46 @@ bytes 09 00 0a 30 d4                     # record 4
     assert_eq!(daytext::decode(&bytes.concat()), expected);
 }
 
-/// A body of ten bytes is the timed quote that it spells.
+#[test]
+fn final_dates_whole_and_damaged() {
+    let bytes = [
+        &[1][..],
+        &[11, 0, 3, 7, 243, 10],
+        &[12, 0, 4, 0, 3, 13, 69],
+        &[12, 0, 4, 0, 0, 0, 0],
+        &[11, 0, 3, 255, 255, 0],
+        &[11, 0, 2, 7, 243],
+        &[11, 0, 4, 0, 3, 13, 69],
+        &[12, 0, 3, 7, 243, 10],
+        &[12, 0, 0],
+        &[11, 0, 3, 7, 243],
+    ];
+    let expected = "\
+size 1
+final 2035 10                            # record 1
+hourly 200005                            # record 2
+hourly 0                                 # record 3
+final 65535 0                            # record 4
+record 11 07 f3                          # record 5
+record 11 00 03 0d 45                    # record 6
+record 12 07 f3 0a                       # record 7
+record 12                                # record 8
+bytes 0b 00 03 07 f3                     # record 9
+";
+    assert_eq!(daytext::decode(&bytes.concat()), expected);
+}
+
+/// A body of ten bytes is the timed quote that it spells, and likewise of other tags.
 #[test]
 fn a_record_line_with_a_whole_body_is_its_call() {
-    let text = "size 1\nrecord 9 30d4 00030da4 00030e6c\nrecord 2 0000 0000 0000 0000\n";
+    let text = "size 1\nrecord 9 30d4 00030da4 00030e6c\nrecord 2 0000 0000 0000 0000\n\
+                record 11 07f3 0a\nrecord 12 00030d45\n";
     let expected = "\
 size 1
 quote 200100 200300 after 12500          # record 1
 quote - -                                # record 2
+final 2035 10                            # record 3
+hourly 200005                            # record 4
 ";
     let bytes = daytext::encode(text).unwrap();
     assert_eq!(daytext::decode(&bytes), expected);
