@@ -42,6 +42,21 @@ struct file midpoint_day(void)
     return day;
 }
 
+struct file whole_contract(void)
+{
+    struct file contract = example_day();
+    add_final_date(&contract, 2026, 12);
+    add_quote(&contract, 200300, 200500);
+    add_minute_ends(&contract, 1020, 200200);
+    add_fix(&contract, 200400); /* record 2348: refused 3 */
+    add_final_fix(&contract, 200425);
+    add_trade(&contract, 3, 9, 4, 200300);
+    add_close(&contract);
+    add_trade(&contract, 3, 7, 12, 200200); /* record 2352: refused 3 */
+    add_final_date(&contract, 2027, 1);     /* record 2353: refused 3 */
+    return contract;
+}
+
 void add_day(struct file *file)
 {
     add_quote(file, 200100, 200300);

@@ -28,6 +28,22 @@ struct file example_day(void);
    12 x (200,246 - 200,200) x 10 = 5,520 and pays 12 x 20 x 100 = 24,000. */
 struct file midpoint_day(void);
 
+/* Document 01's day, the contract's final date, and two records after its end. The fix by a set
+   price on the final date and those two are refused.
+
+   Every minute of the final date has a basis of 200 / 200,200 = 999,000.999 nano, so that the
+   rate is 999,001. The hourly index value, 200,425, is a tie: the price is 200,420, and the
+   amount -999,001 x 200,420 x 10 / 10^11 = -20.022, rounded to -20. Before the close the
+   positions are 16, -7 and -9, each worth 2,000 paid for a contract held; the price is 220 above
+   document 01's, and 120 above the last trade's:
+       account 3: -24,000 + (12 x 220 + 4 x 120) x 10 - 32,000 = -24,800
+       account 7:  19,000 -  7 x 220 x 10             + 14,000 =  17,600
+       account 9:   5,000 - (5 x 220 + 4 x 120) x 10  + 18,000 =   7,200 */
+struct file whole_contract(void);
+
+/* The bytes from its final close to its end. */
+#define FROM_FINAL_CLOSE (3 + 14 + 6)
+
 /* What is left of a day, from its market to its close. Its minutes are valid, and it settles at 200,200. */
 void add_day(struct file *file);
 

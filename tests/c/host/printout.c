@@ -94,6 +94,27 @@ static void the_printout_of_a_day_that_midpoints_settle(void)
     free(day.bytes);
 }
 
+static void the_printout_of_a_contract_to_its_end(void)
+{
+    struct file contract = whole_contract();
+    struct file input = input_of(10, &contract);
+    expect_printout(&input, "day 1 price 200200 rate 1000000 amount -20 valid 1320\n"
+                            "acct 3 net 12 cash -24000\n"
+                            "acct 7 net -7 cash 19000\n"
+                            "acct 9 net -5 cash 5000\n"
+                            "final 25\n"
+                            "refused 3 record 2348\n"
+                            "day 2 price 200420 rate 999001 amount -20 valid 1020\n"
+                            "acct 3 net 0 cash -24800\n"
+                            "acct 7 net 0 cash 17600\n"
+                            "acct 9 net 0 cash 7200\n"
+                            "refused 3 record 2352\n"
+                            "refused 3 record 2353\n"
+                            "end\n");
+    free(input.bytes);
+    free(contract.bytes);
+}
+
 /* Refusal 12 comes after 1, 4 and 5 and before 7 and 8. Account 3 reaches 2,000,000 contracts of
    the day by trades with itself, account 5 a position of 1,200,000. Every trade is at the
    settlement price, so that cash is the amount's alone: 2,000 paid for each contract held. */
@@ -257,6 +278,7 @@ int test_printouts(void)
     static const test_function tests[] = {
         the_printout_of_document_01,
         the_printout_of_a_day_that_midpoints_settle,
+        the_printout_of_a_contract_to_its_end,
         the_printout_of_refused_accounts,
         any_part_is_of_the_whole,
         parts_put_together_are_the_whole,

@@ -84,6 +84,19 @@ void add_length(struct file *file, uint16_t minutes)
     add_record(file, 8, body, sizeof body);
 }
 
+void add_final_date(struct file *file, uint16_t year, uint8_t month)
+{
+    const uint8_t body[3] = {(uint8_t)(year >> 8), (uint8_t)year, month};
+    add_record(file, 11, body, sizeof body);
+}
+
+void add_final_fix(struct file *file, uint32_t hourly)
+{
+    uint8_t body[4];
+    put_number(body, hourly);
+    add_record(file, 12, body, sizeof body);
+}
+
 void add_close(struct file *file)
 {
     add_record(file, 7, NULL, 0);

@@ -24,6 +24,8 @@ void add_timed_quote(struct file *file, uint16_t time, uint32_t bid, uint32_t of
 void add_minute_ends(struct file *file, int count, uint32_t index);
 void add_fix(struct file *file, uint32_t set_price);
 void add_length(struct file *file, uint16_t minutes);
+void add_final_date(struct file *file, uint16_t year, uint8_t month);
+void add_final_fix(struct file *file, uint32_t hourly);
 void add_close(struct file *file);
 
 #endif

@@ -44,6 +44,24 @@ static void midpoints_settle_a_day(void)
     free(day.bytes);
 }
 
+static void a_contract_to_its_end(void)
+{
+    struct file contract = whole_contract();
+    const size_t whole = contract.length;
+    contract.length = whole - FROM_FINAL_CLOSE;
+    EXPECT(run(10, &contract), 2349);
+    expect_account(3, 16, -24000);
+    expect_account(7, -7, 19000);
+    expect_account(9, -9, 5000);
+    contract.length = whole;
+    EXPECT(run(10, &contract), 2350);
+    expect_account(3, 0, -24800);
+    expect_account(7, 0, 17600);
+    expect_account(9, 0, 7200);
+    EXPECT(accounts_shown(), 3);
+    free(contract.bytes);
+}
+
 static void the_open_day_is_reported(void)
 {
     struct file day = example_day();
@@ -106,7 +124,7 @@ static void a_record_cut_off_ends_the_run(void)
 /* Records that aren't accepted, each with a trade after it. */
 static void only_accepted_records_count(void)
 {
-    static const uint8_t known_tags[] = {1, 2, 3, 4, 5, 6, 7, 8, 9, 10};
+    static const uint8_t known_tags[] = {1, 2, 3, 4, 5, 6, 7, 8, 9, 10, 11, 12};
     static const uint8_t body[] = {1, 0, 11, 3, 7};
     struct file day = {NULL, 0, 0};
     int trades = 0;
@@ -116,7 +134,7 @@ static void only_accepted_records_count(void)
         trades++;
     }
     for (int tag = 0; tag <= UINT8_MAX; tag++)
-        if (tag == 0 || tag > 10) {
+        if (tag == 0 || tag > 12) {
             add_record(&day, (uint8_t)tag, body, tag % 2 == 0 ? 0 : sizeof body);
             add_trade(&day, 3, 7, 12, 200200);
             trades++;
@@ -127,6 +145,8 @@ static void only_accepted_records_count(void)
     add_fix(&day, 0);
     add_close(&day);
     add_length(&day, 1140);
+    add_final_date(&day, 2035, 10);
+    add_final_fix(&day, 200200);
     EXPECT(run(1, &day), trades);
     expect_account(3, 12 * trades, 0);
     expect_account(7, -12 * trades, 0);
@@ -167,6 +187,7 @@ int test_runs(void)
         the_example_of_document_01,
         a_short_day,
         midpoints_settle_a_day,
+        a_contract_to_its_end,
         the_open_day_is_reported,
         other_sizes_are_refused,
         an_empty_file_fills_zeros,
