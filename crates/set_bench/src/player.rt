@@ -1,8 +1,9 @@
 // Plays the records of a file on a book that each call takes and hands back.
-use crate::printing::{print_accounts, print_day, print_refused};
+use crate::printing::{print_accounts, print_day, print_final, print_refused};
 use crate::record::{Asked, TRADE, record_at, trades_of};
 use calls::Call;
 use dayfile::RecordError;
+use figures::Found;
 use ledger::Book;
 use refusals::Refusal;
 use std::io;
@@ -13,8 +14,9 @@ fn play_call(rt: &impl Print, book: &mut Book, call: Call, place: usize) -> io::
     *book = answer.book;
     match answer.outcome {
         Err(refusal) => print_refused(rt, refusal, place),
-        Ok(Some(fixing)) => print_day(rt, day, fixing),
-        Ok(None) => match call {
+        Ok(Found::Fixing(fixing)) => print_day(rt, day, fixing),
+        Ok(Found::Friday(friday)) => print_final(rt, friday),
+        Ok(Found::Nothing) => match call {
             Call::Close => print_accounts(rt, &book.columns),
             _ => Ok(()),
         },

@@ -15,6 +15,10 @@ pub fn print_day(rt: &impl Print, day: u64, fixing: Fixing) -> io::Result<()> {
     )
 }
 
+pub fn print_final(rt: &impl Print, friday: u8) -> io::Result<()> {
+    println!(rt; "final {friday}")
+}
+
 // A line for each account that has a position or cash.
 pub fn print_accounts(rt: &impl Print, columns: &Columns) -> io::Result<()> {
     for i in 0..ACCOUNTS {
