@@ -81,6 +81,7 @@ pub fn empty_book() -> Book {
             size: 10,
             closed: 0,
             halted: false,
+            expired: false,
             previous: Previous::default(),
             day: Day {
                 markets: Markets::default(),

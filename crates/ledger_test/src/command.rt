@@ -1,6 +1,7 @@
 // What a case asks for.
 use crate::numbers::{Mistake, Numbers, name_of};
 use calls::{Call, Kind, TimedQuote, Trade};
+use expiry::Month;
 use funding::market::Market;
 
 #[derive(Clone, Copy)]
@@ -27,7 +28,7 @@ pub const ROW_TRADE: Trade = Trade {
     price: 200_200,
 };
 // The calls of a row. A set and a report come after them.
-pub const ROW: [Call; 9] = [
+pub const ROW: [Call; 11] = [
     Call::Quote(Market {
         bid: 200_100,
         offer: 200_300,
@@ -46,6 +47,11 @@ pub const ROW: [Call; 9] = [
             offer: 200_300,
         },
     }),
+    Call::FinalDate(Month {
+        year: 2_035,
+        month: 10,
+    }),
+    Call::FinalFix(200_200),
 ];
 
 pub fn trade(numbers: &mut Numbers<'_>) -> Result<Trade, Mistake> {
@@ -65,6 +71,13 @@ fn timed_quote(numbers: &mut Numbers<'_>) -> Result<TimedQuote, Mistake> {
     })
 }
 
+fn month(numbers: &mut Numbers<'_>) -> Result<Month, Mistake> {
+    Ok(Month {
+        year: numbers.next()?,
+        month: numbers.next()?,
+    })
+}
+
 // The call of this name.
 fn call(name: &str, numbers: &mut Numbers<'_>) -> Result<Option<Call>, Mistake> {
     Ok(Some(match name {
@@ -77,6 +90,8 @@ fn call(name: &str, numbers: &mut Numbers<'_>) -> Result<Option<Call>, Mistake> 
         "close" => Call::Close,
         "day length" => Call::DayLength(numbers.next()?),
         "timed quote" => Call::TimedQuote(timed_quote(numbers)?),
+        "final date" => Call::FinalDate(month(numbers)?),
+        "final fix" => Call::FinalFix(numbers.next()?),
         _ => return Ok(None),
     }))
 }

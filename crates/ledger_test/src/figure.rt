@@ -8,6 +8,7 @@ pub enum Figure {
     Size,
     Closed,
     Halted,
+    Expired,
     PreviousPrice,
     PreviousIndex,
     Minutes,
@@ -37,10 +38,11 @@ pub enum Value {
 
 impl Figure {
     // Each figure with its name, in the order in which changes are printed.
-    pub const NAMED: [(Figure, &'static str); 21] = [
+    pub const NAMED: [(Figure, &'static str); 22] = [
         (Figure::Size, "size"),
         (Figure::Closed, "closed days"),
         (Figure::Halted, "halted"),
+        (Figure::Expired, "expired"),
         (Figure::PreviousPrice, "previous price"),
         (Figure::PreviousIndex, "previous index"),
         (Figure::Minutes, "minutes"),
@@ -65,6 +67,7 @@ impl Figure {
         let day = figures.day;
         let number: i128 = match self {
             Figure::Halted => return Value::Flag(figures.halted),
+            Figure::Expired => return Value::Flag(figures.expired),
             Figure::Begun => return Value::Flag(day.session.begun),
             Figure::Market => return Value::Market(day.markets.standing),
             Figure::MinuteMarket => return Value::Market(day.markets.minute),
@@ -95,6 +98,7 @@ impl Figure {
             Figure::Size => numbers.set(&mut figures.size),
             Figure::Closed => numbers.set(&mut figures.closed),
             Figure::Halted => numbers.set_flag(&mut figures.halted),
+            Figure::Expired => numbers.set_flag(&mut figures.expired),
             Figure::PreviousPrice => numbers.set(&mut figures.previous.price),
             Figure::PreviousIndex => numbers.set(&mut figures.previous.index),
             Figure::Minutes => numbers.set(&mut day.minutes.ended),

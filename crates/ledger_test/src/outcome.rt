@@ -1,5 +1,6 @@
 // The ledger's methods, and what they answer.
 use calls::Call;
+use figures::Found;
 use funding::market::Market;
 use ledger::{Answer, Book};
 use refusals::Refusal;
@@ -23,12 +24,13 @@ impl Outcome {
 impl fmt::Display for Outcome {
     fn fmt<W: fmt::Write>(&self, f: &mut fmt::Formatter<W>) -> fmt::Result {
         match self.0 {
-            Ok(None) => write!(f, "accepted"),
-            Ok(Some(fixing)) => write!(
+            Ok(Found::Nothing) => write!(f, "accepted"),
+            Ok(Found::Fixing(fixing)) => write!(
                 f,
                 "accepted, price {} rate {} amount {} valid {}",
                 fixing.price, fixing.rate, fixing.amount, fixing.valid
             ),
+            Ok(Found::Friday(day)) => write!(f, "accepted, Friday {day}"),
             Err(refusal) => write!(f, "refused {}", u8::from(refusal)),
         }
     }
@@ -46,9 +48,11 @@ pub fn answer_to(book: Book, call: Call) -> Answer {
         Call::Close => book.close(),
         Call::DayLength(minutes) => book.day_length(minutes),
         Call::TimedQuote(quote) => book.timed_quote(quote),
+        Call::FinalDate(month) => book.final_date(month),
+        Call::FinalFix(value) => book.final_fix(value),
     }
 }
 
 pub fn report(book: &Book, positions: &mut [i64], cash: &mut [i64]) -> Outcome {
-    Outcome(book.report(positions, cash).map(|()| None))
+    Outcome(book.report(positions, cash).map(|()| Found::Nothing))
 }
