@@ -10,3 +10,4 @@ pub mod Keeping
 pub mod Lent
 pub mod Booking
 pub mod SetOrSingly
+pub mod Expiry

@@ -6,4 +6,5 @@ pub mod Operations
 pub mod Checked
 pub mod Keeping
 pub mod SetOrSingly
+pub mod Expiry
 pub mod Inner
