@@ -25,7 +25,7 @@ extern "C" {
    Otherwise it returns the number of accepted records, which is 0 too if none was accepted, and
    fills both lists: entry j is account j's position, of the open day too, and its total cash in
    hundredths of a cent, where the run ended. A record that is cut off ends the run. Once the
-   contract has ended, by the close of its final date, every position is 0 and every later record
+   contract has ended, by the close of its final date, every position is 0 and every later call
    is refused.
 
    The file is only read, and must not overlap a list; nor may the lists overlap each other.

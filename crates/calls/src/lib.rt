@@ -1,4 +1,4 @@
-// The calls of a trade date, with the trades, lengths of day and timed quotes that they bring.
+// The calls of a trade date, with the trades, timed quotes, lengths of day and months that they bring.
 #![tactic(auto)]
 
 ghost use Rattle.std.specs.Prelude.{◌≡◌};
@@ -14,7 +14,7 @@ pub const MOST_QUANTITY: u32 = 100_000;
 pub const LEAST_BLOCK: u32 = 250;
 // The most trades that a set may have.
 pub const MOST_TRADES: usize = 500;
-// The lengths of a day, in minutes: an ordinary one, one that ends early before a holiday, and a contract's final date.
+// The lengths of a day, in minutes: a full one, one that ends early before a holiday, and a contract's final date.
 pub const FULL_DAY: u32 = MOST_MINUTES;
 
 pub const SHORT_DAY: u32 = 1_140;
@@ -81,7 +81,7 @@ pub enum Call {
     // the minutes of the day
     DayLength(u32),
     TimedQuote(TimedQuote),
-    // the contract's month, whose end the date is
+    // the month in which the contract ends: the date is its last
     FinalDate(Month),
     // the hourly index value, by which a final date settles
     FinalFix(u32),

@@ -38,11 +38,11 @@ carried_columns n f c = record {
   cash = c.cash;
 }
 
--- "… and the day's figures (… v, cost …) … start empty"
+-- 01: "the day's figures (… v, cost …) … start empty"
 abbrev pub closed_columns : ℕ → Figures → Columns → Columns
 closed_columns n f c = record {
-  opening = positions_left n f c.position;
-  position = positions_left n f c.position;
+  opening = (carried_columns n f c).opening;
+  position = (carried_columns n f c).position;
   cost = replicate n (pos 0);
   volume = replicate n 0;
   cash = (posted_columns n f c).cash;

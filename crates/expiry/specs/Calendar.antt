@@ -15,7 +15,7 @@ month_length year month =
     cond (eqb month 2) (cond (is_leap_year year) 29 28)
     (cond (eqb month 4 || eqb month 6 || eqb month 9 || eqb month 11) 30 31)
 
--- the days from 1 January 2025 to the first of a month: the years from 2025 on and the year's months that lie before it
+-- the days from 1 January 2025 to the first of a month of that year or a later one: the years from 2025 on and the year's months that lie before it
 unfoldable pub days_before : ℕ → ℕ → ℕ
 days_before year month =
     sum_by year_length (range_with_len 2025 (year - 2025)) + sum_by (month_length year) (range_with_len 1 (month - 1))

@@ -24,7 +24,7 @@ use Rattle.calls.proofs.Calls.{FixOr, CloseOr, fix, final_fix, close, fix_or, cl
 use Rattle.figures.specs.Fixing.{fix_price}
 use Rattle.calls.proofs.Calls as calls
 use Rattle.ledger.proofs.Allowed.{Allowed}
-use Rattle.history.specs.History.{History, FixMoment, length_of, begun, is_final_on, closings, today, fixes, minutes}
+use Rattle.history.specs.History.{History, FixMoment, length_of, begun, is_final_date_on, closings, today, fixes, minutes}
 use Rattle.history.specs.Cash.{at_fix, price_on}
 use Rattle.history.specs.Demand3.{calls_of_days, Whole}
 use Rattle.history.proofs.Kept.{day_from, figures_from, book_from, day_allows, none_ended, fix_price-price_at}
@@ -66,7 +66,7 @@ one_fix n s (c ∷ h) a = by (one_fix n s h a.1) (fix_or c) (close_or c)
   where
     fixes-fix : (set : ℕ) → length (fixes h) ≡ cond (is_present (price_on h)) 1 0 → Allowed n (book_from n s h) (call.Fix set) → suc (length (fixes h)) ≡ cond (is_present (price_on (call.Fix set ∷ h))) 1 0
     fixes-fix set rest p =
-        let any = (or_parts (is_final_on h) (forbids_any_fix (day_from s h)) (day_allows n s h (call.Fix set) p)).1 in
+        let any = (or_parts (is_final_date_on h) (forbids_any_fix (day_from s h)) (day_allows n s h (call.Fix set) p)).1 in
         let day = or_parts (ltb (minutes h) (length_of h)) (is_present (price_on h)) any in
         ap suc (rest ∙ ap (λ (x : Bool). cond x 1 0) day.1)
         ∙ sym (ap (λ (x : Bool). cond x 1 0) (not-false (is_present (fix_price (figures_from s h) set)) p.sentences.price))
@@ -74,7 +74,7 @@ one_fix n s (c ∷ h) a = by (one_fix n s h a.1) (fix_or c) (close_or c)
 
     fixes-final : (v : ℕ) → length (fixes h) ≡ cond (is_present (price_on h)) 1 0 → Allowed n (book_from n s h) (call.FinalFix v) → suc (length (fixes h)) ≡ cond (is_present (dime_price v)) 1 0
     fixes-final v rest p =
-        let any = (or_parts (not (is_final_on h)) (forbids_any_fix (day_from s h)) (day_allows n s h (call.FinalFix v) p)).1 in
+        let any = (or_parts (not (is_final_date_on h)) (forbids_any_fix (day_from s h)) (day_allows n s h (call.FinalFix v) p)).1 in
         let day = or_parts (ltb (minutes h) (length_of h)) (is_present (price_on h)) any in
         ap suc (rest ∙ ap (λ (x : Bool). cond x 1 0) day.1)
         ∙ sym (ap (λ (x : Bool). cond x 1 0) (dime_present v (not-false (is_price v) p.sentences.field)))
@@ -101,7 +101,7 @@ no_fix n s h c p a late =
     go (x ∷ l) e = absurd (suc-ne-zero (length l) e)
 
 -- each is of the date's own kind
-own_kind : (n s : ℕ) (h : History) → AllAllowed n s h → Every (λ x. x.final ≡ is_final_on h) (fixes h)
+own_kind : (n s : ℕ) (h : History) → AllAllowed n s h → Every (λ x. x.final ≡ is_final_date_on h) (fixes h)
 unfolding fixes length_of
 own_kind n s [] a = tt
 own_kind n s (call.Quote m ∷ h) a = own_kind n s h a.1
@@ -110,15 +110,15 @@ own_kind n s (call.Halt ∷ h) a = own_kind n s h a.1
 own_kind n s (call.Resume ∷ h) a = own_kind n s h a.1
 own_kind n s (call.MinuteEnd u ∷ h) a = own_kind n s h a.1
 own_kind n s (call.Fix set ∷ h) a =
-    let kind = (or_parts (is_final_on h) (forbids_any_fix (day_from s h)) (day_allows n s h (call.Fix set) a.0)).0 in
+    let kind = (or_parts (is_final_date_on h) (forbids_any_fix (day_from s h)) (day_allows n s h (call.Fix set) a.0)).0 in
     (sym kind, own_kind n s h a.1)
 own_kind n s (call.Close ∷ h) a = tt
 own_kind n s (call.DayLength l ∷ h) a = rw (no_fix n s h (call.DayLength l) a.0 a.1 (day_allows n s h (call.DayLength l) a.0)) tt
 own_kind n s (call.TimedQuote q ∷ h) a = own_kind n s h a.1
 own_kind n s (call.FinalDate m ∷ h) a = rw (no_fix n s h (call.FinalDate m) a.0 a.1 (day_allows n s h (call.FinalDate m) a.0)) tt
 own_kind n s (call.FinalFix v ∷ h) a =
-    let kind = (or_parts (not (is_final_on h)) (forbids_any_fix (day_from s h)) (day_allows n s h (call.FinalFix v) a.0)).0 in
-    (sym (not-false (is_final_on h) kind), own_kind n s h a.1)
+    let kind = (or_parts (not (is_final_date_on h)) (forbids_any_fix (day_from s h)) (day_allows n s h (call.FinalFix v) a.0)).0 in
+    (sym (not-false (is_final_date_on h) kind), own_kind n s h a.1)
 
 -- the day that a close is accepted on is fixed
 fixed : (n s : ℕ) (d : History) → Allowed n (book_from n s d) call.Close → is_present (price_on d) ≡ true

@@ -39,7 +39,7 @@ use Rattle.figures.specs.Figures.{is_over}
 use Rattle.outcomes.specs.Outcome.{day_forbids}
 use Rattle.outcomes.proofs.Passed.{passed_day}
 use Rattle.ledger.proofs.Allowed.{Allowed, accounts_allow}
-use Rattle.history.specs.History.{History, length_of, begun, is_final_on, expired, halted, market, minute_market, last, closings, today, closed_part, trades, minute_ends, fixes, minutes, at_last_end, ends_valid, valid_of, valid_minutes, final_trades, tie_of}
+use Rattle.history.specs.History.{History, length_of, begun, is_final_date_on, expired, halted, market, minute_market, last, closings, today, closed_part, trades, minute_ends, fixes, minutes, at_last_end, ends_valid, valid_of, valid_minutes, final_trades, tie_of}
 use Rattle.history.specs.Cash.{final_minute, index_on, price_at, at_fix, previous_of, price_on, last_price, rate_on, amount_on, of_account, signed, net, position_of, yield, paid, cash_of}
 use Rattle.history.specs.LastMinute.{latest, minute_markets, stood}
 use Rattle.history.proofs.LastMinute.{midpoints_from, after_quote, after_timed, after_minute, after_length, after_final_date, at_fix_time}
@@ -158,7 +158,7 @@ module _ (s : ℕ) (h : History) where
       (record { latest = 0; midpoints = after_minute h u before i }))
   figures_after-figures_from n (call.Fix set) p =
       let f = figures_after (figures_from s h) (call.Fix set) in
-      let any = (or_parts (is_final_on h) (forbids_any_fix (day_from s h)) (day_allows n s h (call.Fix set) p)).1 in
+      let any = (or_parts (is_final_date_on h) (forbids_any_fix (day_from s h)) (day_allows n s h (call.Fix set) p)).1 in
       let over : length_of h ≤ minutes h = omega (tests, none (ltb (minutes h) (length_of h)) (is_fixed (day_from s h) ∷ []) any 0) in
       λ i. with_day f f.halted (with_fixed f.day (record { price = fix_price-price_at set over i; amount = amount_of (tie_of h) (rate_on h) (fix_price-price_at set over i) s }))
   figures_after-figures_from n call.Close p = cc (add-one (length (closings h)))
@@ -284,11 +284,11 @@ effect_is n s h c allowed = by (trade_or c) (close_or c)
     by (trade t e) k = rw e (cc (figures_after-figures_from s h n (call.Trade t) (rw e at allowed), position_traded n h t going, cost_traded n h t, counted_table n (volume_of h) t))
     by (calls.TradeOr.other o) (close e) =
         rw e
-        (cc (figures_after-figures_from s h n call.Close (rw e at allowed), cost_closed n h, replicate_table {A = ℕ} n 0, left n (is_final_on h) (expired h) (net h) going, table_ext n (cash_after (book_from n s h)) (cash_of s (call.Close ∷ h)) (cash_closed n s h going)))
+        (cc (figures_after-figures_from s h n call.Close (rw e at allowed), cost_closed n h, replicate_table {A = ℕ} n 0, left n (is_final_date_on h) (expired h) (net h) going, table_ext n (cash_after (book_from n s h)) (cash_of s (call.Close ∷ h)) (cash_closed n s h going)))
     by (calls.TradeOr.other o) (calls.CloseOr.other k) =
         let b = book_from n s h in
         let f = figures_after (figures_from s h) c in
-        let ended : expired h ≡ expired (c ∷ h) = sym (k Bool (is_final_on h) (expired h)) in
+        let ended : expired h ≡ expired (c ∷ h) = sym (k Bool (is_final_date_on h) (expired h)) in
         let days : closings h ≡ closings (c ∷ h) = sym (k (List History) (h ∷ closings h) (closings h)) in
         let all : trades h ≡ trades (c ∷ h) = sym (o (List Trade) (λ t. t ∷ trades h) (trades h)) in
         let todays : trades (today h) ≡ trades (today (c ∷ h)) = sym (ap trades (k History [] (c ∷ today h)) ∙ o (List Trade) (λ t. t ∷ trades (today h)) (trades (today h))) in

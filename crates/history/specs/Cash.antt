@@ -1,4 +1,4 @@
--- Demand 3's figures, from the accepted calls alone: a day's index, P and amount, and an account's net position and cash.
+-- Demand 3's figures, from the accepted calls alone: a day's index, P and amount, and an account's net position, position and cash.
 -- The open day's are those of the whole history, and a closed day's those of its element of `closings`.
 use mathlib.Core.{Bool.cond, List.List, List.[], List.◌∷◌}
 use Rattle.std.specs.Prelude.{ℕ, ◌*◌}

@@ -2,12 +2,12 @@
 --
 -- Open a book of n accounts with a size, and bring any list of calls and sets of trades to it. The book answers each with a refusal number or accepts it. Keep the
 -- accepted calls alone, and the trades of the accepted sets: the history. From the history and the size, and never from the book, specs/ works out each day's
--- amount, and each account's net position and cash.
+-- amount, and each account's position, which is 0 after the final close, and cash.
 -- The claim:
 --   every account's position and cash in the book after the list are those figures, and so is the amount of the day, 0 before its fix;
 --   the positions of all accounts add up to zero, and so does their cash;
 --   the history is its closed days and the open day put together, with no call left out or counted twice;
---   every closed day has all of its minute ends and one fix, so that "its one accepted fix" names one P and one amount.
+--   every closed day has all of its minute ends and one fix, of its own kind, so that "its one accepted fix" names one P and one amount.
 use mathlib.Core.{Path.◌≡◌, List.List, List.[], List.◌∷◌, List.◌++◌, List.reverse}
 use Rattle.std.specs.Prelude.{ℕ, ◌<◌}
 use lib.{IntN.ℤ, IntN.pos, ListN.length}
@@ -15,7 +15,7 @@ use Rattle.integers.specs.Lists.{Every, sum}
 use Rattle.calls.specs.declared.Call.TheVariants as call
 use Rattle.columns.specs.Columns.{entry}
 use Rattle.ledger.specs.{declared.Book.Book, Step.opening, Operations.Operation, Operations.run, Operations.accepted_calls}
-use Rattle.history.specs.{History.History, History.length_of, History.is_final_on, History.closings, History.today, History.minute_ends, History.fixes, Cash.amount_on, Cash.position_of, Cash.cash_of}
+use Rattle.history.specs.{History.History, History.length_of, History.is_final_date_on, History.closings, History.today, History.minute_ends, History.fixes, Cash.amount_on, Cash.position_of, Cash.cash_of}
 
 -- the book of n accounts, opened with the size s, after the calls and sets os
 abbrev pub after : ℕ → ℕ → List Operation → Book
@@ -34,7 +34,7 @@ calls_of_days (d ∷ ds) = call.Close ∷ (today d ++ calls_of_days ds)
 pub record Whole (d : History) : Type 0 where
   pub minute_count : length (minute_ends d) ≡ length_of d
   pub one_fix : length (fixes d) ≡ 1
-  pub own_kind : Every (λ x. x.final ≡ is_final_on d) (fixes d)
+  pub own_kind : Every (λ x. x.final ≡ is_final_date_on d) (fixes d)
 
 -- the entries of a column, added up
 abbrev pub total : List ℤ → ℤ

@@ -24,13 +24,13 @@ begun [] = false
 begun (c ∷ h) = by_call (λ m. true) (λ t. true) true true (λ u. true) (λ set. begun h) false (λ l. true) (λ q. true) (λ m. true) (λ v. begun h) c
 
 -- whether the open day is a final date
-abbrev pub is_final_on : History → Bool
-is_final_on h = eqb (length_of h) final_day
+abbrev pub is_final_date_on : History → Bool
+is_final_date_on h = eqb (length_of h) final_day
 
 -- 02-7: whether the final close has come
 unfoldable pub expired : History → Bool
 expired [] = false
-expired (c ∷ h) = on_close (is_final_on h) (expired h) c
+expired (c ∷ h) = on_close (is_final_date_on h) (expired h) c
 
 -- ---- the numbers in force on the open day: document 01's on every day
 
@@ -97,7 +97,7 @@ unfoldable pub minute_ends : History → List Moment
 minute_ends [] = []
 minute_ends (c ∷ h) = on_minute_end (λ u. record { value = u; before = h } ∷ minute_ends h) (on_close [] (minute_ends h) c) c
 
--- a fix: whether it is that of a final date, and its moment, with a set price or an hourly index value
+-- a fix: whether it is that of a final date, the set price or the hourly index value that it gives, and the calls before it
 pub record FixMoment : Type 0 where
   pub final : Bool
   pub value : ℕ

@@ -33,7 +33,7 @@ use Rattle.day.specs.Day.{no_markets, day_length, is_final_date, is_fixed, forbi
 use Rattle.figures.specs.Figures.{terms_on, tie_on, tenth}
 use Rattle.day_effects.specs.Effects.{quoted, with_fixed, with_length}
 use Rattle.outcomes.specs.Effects.{with_day, with_begun_day, fixed_at, figures_after}
-use Rattle.figures.specs.Fixing.{fix_price, fix_rate, fix_amount}
+use Rattle.figures.specs.Fixing.{fix_price, fix_rate, fix_amount, fixing_at}
 use Rattle.day.specs.Limits.{most_amount, markets_hold}
 use Rattle.refusals.specs.Refusals.{most_days, no_accounts, Accounts, sides_outside}
 use Rattle.outcomes.specs.Outcome.{FiguresKept}
@@ -91,10 +91,10 @@ module _ (f : Figures) (a : Accounts) (h : HeldFigures f) where
       held-with_day h refl refl refl (held-minute_ended d h.day (terms_on f) f.halted u (omega (tests, t 0)) (not-false (none_or_price u) p.field) (t 1))
 
   -- a fix of either kind
-  fixed_kept : (P : ℕ) → forbids_any_fix d ≡ false → none_or_price P ≡ true → HeldFigures (with_day f f.halted (with_fixed d (fixed_at f P)))
+  fixed_kept : (P : ℕ) → forbids_any_fix d ≡ false → none_or_price P ≡ true → HeldFigures (with_day f f.halted (with_fixed d (fixed_at (fixing_at f P))))
   fixed_kept P allowed hP =
       let t = or_parts (ltb d.minutes.ended (day_length d)) (is_fixed d) allowed in
-      held-with_day h refl refl refl (held-with_fixed d h.day (fixed_at f P) (omega (tests, t.0)) hP (fix_amount-held f h P hP))
+      held-with_day h refl refl refl (held-with_fixed d h.day (fixed_at (fixing_at f P)) (omega (tests, t.0)) hP (fix_amount-held f h P hP))
 
   fix_kept : (volume set : ℕ) → HeldFinal d.trades.settling volume → PassedFigures f (call.Fix set) a → HeldFigures (figures_after f (call.Fix set))
   unfolding figures_after

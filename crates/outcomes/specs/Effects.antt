@@ -2,11 +2,10 @@
 use Rattle.std.specs.Prelude.{Bool, true, false, ℕ, ◌+◌, Option, None, Some}
 use Rattle.day.specs.{declared.Fixed.Fixed, declared.Day.Day, Day.is_final_date, Day.no_markets, Day.empty_day}
 use Rattle.day_effects.specs.Effects.{with_markets, with_minutes, with_trades, with_fixed, with_timing, quoted, timing_after_quote, traded, minute_ended, timing_after_minute, next_minute, begun, with_length}
-use Rattle.figures.specs.{declared.Figures.Figures, declared.Fixing.Fixing, Figures.terms_on, Fixing.fix_amount, Fixing.fix_price, Fixing.ordinary_fixing, Fixing.final_fixing}
+use Rattle.figures.specs.{declared.Figures.Figures, declared.Fixing.Fixing, Figures.terms_on, Fixing.ordinary_fixing, Fixing.final_fixing}
 use Rattle.calls.specs.declared.Call.TheVariants as call
 use Rattle.funding.specs.Market.{is_valid}
 use Rattle.expiry.specs.Table.{last_friday}
-use Rattle.settlement.specs.Fixing.{dime_price}
 use Rattle.calls.specs.{declared.Call.Call, Calls.on_fix, Calls.on_final_date, Calls.on_final_fix, Length.final_day}
 
 abbrev pub with_day : Figures → Bool → Day → Figures
@@ -19,8 +18,8 @@ with_begun_day f halted d = with_day f halted (begun d)
 -- ---- a fix and a close
 
 -- 01: "The day is then fixed, with P as its fixed price and this as its fixed amount"
-abbrev pub fixed_at : Figures → ℕ → Fixed
-fixed_at f P = record { price = P; amount = fix_amount f P }
+abbrev pub fixed_at : Fixing → Fixed
+fixed_at x = record { price = x.price; amount = x.amount }
 
 -- 01: "P and the day's index become the previous ones, … closed days rise by 1, and the day's figures … start empty. A halt carries over";
 -- 02-7: after the final close "the book then accepts reports only"
@@ -45,14 +44,14 @@ figures_after f call.Resume = with_begun_day f false f.day
 figures_after f (call.MinuteEnd u) =
     let valid = is_valid (terms_on f) f.halted f.day.markets.minute u in
     with_begun_day f f.halted (with_timing (with_minutes (with_markets f.day (next_minute f.day.markets)) (minute_ended f.day valid u)) (timing_after_minute f.day))
-figures_after f (call.Fix set) = with_day f f.halted (with_fixed f.day (fixed_at f (fix_price f set)))
+figures_after f (call.Fix set) = with_day f f.halted (with_fixed f.day (fixed_at (ordinary_fixing f set)))
 figures_after f call.Close = closed_figures f
 figures_after f (call.DayLength l) = with_begun_day f f.halted (with_length f.day l)
 figures_after f (call.TimedQuote q) = with_begun_day f f.halted (with_timing (with_markets f.day (quoted f.day.markets q.market)) (timing_after_quote f.day q.time))
 figures_after f (call.FinalDate m) = with_begun_day f f.halted (with_length f.day final_day)
-figures_after f (call.FinalFix v) = with_day f f.halted (with_fixed f.day (fixed_at f (dime_price v)))
+figures_after f (call.FinalFix v) = with_day f f.halted (with_fixed f.day (fixed_at (final_fixing f v)))
 
--- what an accepted call found, which only a fix does
+-- the fix in what an accepted call found
 unfoldable pub fixing_of : Figures → Call → Option Fixing
 fixing_of f c = on_fix (λ set. Some (ordinary_fixing f set)) (on_final_fix (λ v. Some (final_fixing f v)) None c) c
 

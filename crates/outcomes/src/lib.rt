@@ -7,7 +7,7 @@ ghost use Rattle.day_effects.specs.Inner.{RoomForTrade};
 ghost use Rattle.figures.specs.Figures.{tenth, outcome_of, figures_hold};
 ghost use Rattle.figures.specs.Fixing.{Fixable};
 ghost use Rattle.day_effects.specs.Effects.{with_fixed, with_length};
-ghost use Rattle.outcomes.specs.Effects.{with_day, with_begun_day, figures_after};
+ghost use Rattle.outcomes.specs.Effects.{with_day, with_begun_day, fixed_at, figures_after};
 ghost use Rattle.outcomes.specs.Outcome.{outcome};
 
 use calls::{Call, FINAL_DAY, TimedQuote, Trade};
@@ -111,7 +111,7 @@ pub fn minute_end(figures: &mut Figures, index: u32) -> Outcome
 
 // The day is fixed by what a fix found.
 fn set_fixed(figures: &mut Figures, fixing: Fixing)
-    ensures { figures.new ≡ with_day figures.old figures.old.halted (with_fixed figures.old.day (record { price = fixing.price; amount = fixing.amount })) }
+    ensures { figures.new ≡ with_day figures.old figures.old.halted (with_fixed figures.old.day (fixed_at fixing)) }
 {
     let Fixing { price, amount, .. } = fixing;
     figures.day.fixed = Fixed { price, amount };

@@ -35,6 +35,7 @@ pub record AfterRecord : Type 0 where
   pub printed : Option Printed
   pub book : Book
 
+-- 02-7: the final close "clears every present and opening position before printing": what is printed is of the book after the call
 abbrev pub played : Answered → Call → ℕ → AfterRecord
 played a c place = record { printed = printed_by a.code a.fixing a.friday a.book.figures.closed c place; book = a.book }
 
