@@ -21,13 +21,13 @@ pub mod product;
 #[derive(Clone, Copy)]
 pub struct Figures {
     pub size: u32,
+    // whether the contract has ended, which the close of a final date sets for good
+    pub expired: bool,
     // closed days
     pub closed: u32,
     pub day: Day,
     pub previous: Previous,
     pub halted: bool,
-    // whether the contract has ended, which the close of a final date sets for good
-    pub expired: bool,
 }
 
 // What a fix finds and prints.
