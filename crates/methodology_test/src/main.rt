@@ -3,14 +3,12 @@
 #![tactic(auto)]
 
 mod rows;
-mod sample;
-mod weighted;
 
+use methodology::sample::{Priced, Sample};
+use methodology::weighted::Weighted;
 use rows::{Amount, Basis, Clamp, Spread, WeightedMinute};
-use sample::{Priced, Sample};
 use std::fmt::Display;
 use std::io;
-use weighted::Weighted;
 
 fn print_rows<R: Display>(rt: &impl Print, rows: &[R]) -> io::Result<()> {
     for row in rows {

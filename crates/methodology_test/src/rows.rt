@@ -3,9 +3,9 @@ ghost use Rattle.std.specs.Prelude.{◌≡◌, ◌<◌, ◌≤◌, nat_abs};
 ghost use Rattle.prices.specs.Price.{largest_price};
 ghost use Rattle.funding.specs.Terms.{clamp};
 
-use crate::sample::Sample;
 use figures::product::Product;
 use integers::Tie;
+use methodology::sample::Sample;
 use std::fmt;
 use std::fmt::{Display, Formatter};
 

@@ -1,7 +1,9 @@
 // The weighted sum of an example's valid minutes.
-ghost use Rattle.std.specs.Prelude.{◌≡◌, ◌+◌, ◌<◌, ◌≤◌, pos, nat_abs, IsTrue};
+ghost use Rattle.std.specs.Prelude.{◌≡◌, ◌+◌, ◌<◌, ◌≤◌, ◌++◌, pos, nat_abs, IsTrue, Some, codes};
+ghost use Rattle.std.specs.Fmt.{decimal, signed_decimal};
 ghost use Rattle.funding.specs.Terms.{standard_terms};
 ghost use Rattle.funding.specs.Minute.{weighted_limit, within_spread, futures_price, Accrues, accrued, basis_of};
+ghost use Rattle.settlement.specs.Fixing.{rate_of};
 
 use crate::sample::Priced;
 use std::fmt;
@@ -53,6 +55,8 @@ impl Weighted {
 
 // Valid minutes; their rate.
 impl Display for Weighted {
+    ghost output = { λ w. Some (codes "rate " ++ decimal w.count ++ codes " " ++ signed_decimal (rate_of w.count w.sum)) };
+
     fn fmt<W: fmt::Write>(&self, f: &mut Formatter<W>) -> fmt::Result {
         let rate = settlement::rate(self.count, self.sum);
         write!(f, "rate {} {rate}", self.count)

@@ -1,7 +1,7 @@
--- `methodology_test::weighted::Weighted::weigh` meets its contract: the basis keeps the weighted sum within its limit. Assumes nothing.
+-- `methodology::weighted::Weighted::weigh` meets its contract: the basis keeps the weighted sum within its limit. Assumes nothing.
 use Rattle.std.proofs.Common.{w64, SFits, to_z-of_z, rules}
 use Rattle.funding.proofs.Bounds.{accrued_size}
-use Rattle.methodology_test.proofs.weighted.Weighted.weigh.Goals as goal
+use Rattle.methodology.proofs.weighted.Weighted.weigh.Goals as goal
 
 pub accrue-sum-requires : goal.accrue-sum-requires
 accrue-sum-requires c =

@@ -1,5 +1,6 @@
 // A minute of the examples.
-ghost use Rattle.std.specs.Prelude.{◌≡◌, true, ◌≤◌, ◌<◌, ◌+◌, ◌↔◌, pos, ◌-ℤ◌, ◌*ℤ◌, IsTrue, IsSome, IfSome};
+ghost use Rattle.std.specs.Prelude.{◌≡◌, true, ◌≤◌, ◌<◌, ◌+◌, ◌↔◌, ◌++◌, pos, ◌-ℤ◌, ◌*ℤ◌, IsTrue, IsSome, IfSome, Some, codes};
+ghost use Rattle.std.specs.Fmt.{decimal};
 ghost use Rattle.integers.specs.Rounding.{half_even};
 ghost use Rattle.prices.specs.Price.{is_price};
 ghost use Rattle.funding.specs.Terms.{standard_terms};
@@ -56,6 +57,8 @@ impl Sample {
 
 // Bid, offer, last and index.
 impl Display for Sample {
+    ghost output = { λ s. Some (decimal s.market.bid ++ codes " " ++ decimal s.market.offer ++ codes " " ++ decimal s.last ++ codes " " ++ decimal s.index) };
+
     fn fmt<W: fmt::Write>(&self, f: &mut Formatter<W>) -> fmt::Result {
         let Market { bid, offer } = self.market;
         write!(f, "{bid} {offer} {} {}", self.last, self.index)
