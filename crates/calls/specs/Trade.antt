@@ -6,13 +6,13 @@ use Rattle.calls.specs.declared.Kind.TheVariants as kind
 
 -- 01: "kind 0 simple, 1 spread against spread, 2 block"; 5: "kind above 2"
 abbrev pub kind_of : ℕ → Kind
-kind_of number = cond (eqb number 0) kind.Simple (cond (eqb number 1) kind.Spread (cond (eqb number 2) kind.Block kind.Other))
+kind_of number = cond (eqb number 0) kind.Simple (cond (eqb number 1) kind.Spread (cond (eqb number 2) kind.Block (kind.Other number)))
 
 abbrev pub is_simple : Kind → Bool
 is_simple kind.Simple = true
 is_simple kind.Spread = false
 is_simple kind.Block = false
-is_simple kind.Other = false
+is_simple (kind.Other number) = false
 
 -- 5: "kind above 2; quantity 0, above 100,000, or below 250 for kind 2; a price no price; … a kind 0 price not ticked"
 abbrev pub most_quantity : ℕ
@@ -26,7 +26,7 @@ abbrev pub kind_outside : Kind → Trade → Bool
 kind_outside kind.Simple t = not (is_ticked t.price)
 kind_outside kind.Spread t = false
 kind_outside kind.Block t = ltb t.quantity least_block
-kind_outside kind.Other t = true
+kind_outside (kind.Other number) t = true
 
 abbrev pub trade_outside : Trade → Bool
 trade_outside t = eqb t.quantity 0 || ltb most_quantity t.quantity || not (is_price t.price) || kind_outside t.kind t

@@ -34,7 +34,7 @@ pub enum Kind {
     Block,
     // A number that stands for no kind. It is no Option: a body with such a number is a trade as well, which refusal 5 meets in its
     // place among the refusals.
-    Other,
+    Other(u8),
 }
 
 impl From<u8> for Kind {
@@ -45,7 +45,7 @@ impl From<u8> for Kind {
             0 => Kind::Simple,
             1 => Kind::Spread,
             2 => Kind::Block,
-            _ => Kind::Other,
+            other => Kind::Other(other),
         }
     }
 }
@@ -123,7 +123,7 @@ impl Trade {
             Kind::Simple => !prices::is_ticked(self.price),
             Kind::Spread => false,
             Kind::Block => self.quantity < LEAST_BLOCK,
-            Kind::Other => true,
+            Kind::Other(_) => true,
         }
     }
 }
