@@ -34,12 +34,12 @@ fresh_figures s = record { size = s; closed = 0; halted = false; expired = false
 abbrev pub is_over : Figures → Bool
 is_over f = leb most_days f.closed || f.expired
 
--- what a call comes to: the number of its refusal, 0 for none, what a fix found, the day of the month that a final date prints, 0 for none, and
--- the figures after it
+-- what a call comes to: the number of its refusal, 0 for none, what a fix found, the day of the month that a final date prints, and the figures
+-- after it
 pub record Outcome : Type 0 where
   pub code : ℕ
   pub fixing : Option Fixing
-  pub friday : ℕ
+  pub friday : Option ℕ
   pub figures : Figures
 
 -- the fix and the day of the month in what an accepted call finds
@@ -48,26 +48,26 @@ fixing_found found.Nothing = None
 fixing_found (found.Fixing fixing) = Some fixing
 fixing_found (found.Friday day) = None
 
-abbrev pub friday_found : Found → ℕ
-friday_found found.Nothing = 0
-friday_found (found.Fixing fixing) = 0
-friday_found (found.Friday day) = day
+abbrev pub friday_found : Found → Option ℕ
+friday_found found.Nothing = None
+friday_found (found.Fixing fixing) = None
+friday_found (found.Friday day) = Some day
 
 -- the outcome that the answer to a call stands for, with the figures after it
 abbrev pub fixing_in : Result Found Refusal → Option Fixing
 fixing_in (Ok x) = fixing_found x
 fixing_in (Err r) = None
 
-abbrev pub friday_in : Result Found Refusal → ℕ
+abbrev pub friday_in : Result Found Refusal → Option ℕ
 friday_in (Ok x) = friday_found x
-friday_in (Err r) = 0
+friday_in (Err r) = None
 
 abbrev pub outcome_of : Result Found Refusal → Figures → Outcome
 outcome_of r f = record { code = number_of r; fixing = fixing_in r; friday = friday_in r; figures = f }
 
 -- figures with a refusal's number, 0 for none, and nothing found
 abbrev pub numbered : Figures → ℕ → Outcome
-numbered f number = record { code = number; fixing = None; friday = 0; figures = f }
+numbered f number = record { code = number; fixing = None; friday = None; figures = f }
 
 -- 01: "A refused opening returns an empty book of size 0"; its number is 5
 abbrev pub opened : ℕ → Outcome

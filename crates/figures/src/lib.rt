@@ -65,13 +65,13 @@ impl Found {
         }
     }
 
-    // The day of the month that a final date prints, 0 for none.
-    pub fn friday(self) -> u8
+    // The day of the month that a final date prints.
+    pub fn friday(self) -> Option<u8>
         ensures { result ≡ friday_found self }
     {
         match self {
-            Found::Friday(day) => day,
-            _ => 0,
+            Found::Friday(day) => Some(day),
+            _ => None,
         }
     }
 }

@@ -96,4 +96,4 @@ unfolding trade_set step set_effect fixing_of
 set_of_one n b t =
     let e = same_number n b t (within_limits n b) (are_accounts n t) refl refl in
     let accepted = eqb (refusal n b (call.Trade t)) 0 in
-    rw (e, ← either_way n b t {A = Option Fixing} accepted None, ← either_way n b t {A = ℕ} accepted 0)
+    rw (e, ← either_way n b t {A = Option Fixing} accepted None, ← either_way n b t {A = Option ℕ} accepted None)

@@ -7,5 +7,5 @@ use Rattle.ledger.specs.{declared.checked.CheckedBook.CheckedBook, Step.Answered
 
 -- the answer that such an opening stands for: where it is refused, the book of size 0 is left out
 abbrev pub checked_opening : Result CheckedBook Refusal → Answered
-checked_opening (Ok k) = record { code = 0; fixing = None; friday = 0; book = k.book }
-checked_opening (Err r) = record { code = number r; fixing = None; friday = 0; book = empty_book accounts (fresh_figures 0) }
+checked_opening (Ok k) = record { code = 0; fixing = None; friday = None; book = k.book }
+checked_opening (Err r) = record { code = number r; fixing = None; friday = None; book = empty_book accounts (fresh_figures 0) }

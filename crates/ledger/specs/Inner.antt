@@ -31,5 +31,5 @@ pub record SetBooked (n : ℕ) (b : Book) (ts : List Trade) (r : Result Unit Ref
 
 -- the answer to a set that leads from one book to another, or is refused
 abbrev pub set_answer : Book → Result Book Refusal → Answered
-set_answer b (Ok b') = record { code = 0; fixing = None; friday = 0; book = b' }
-set_answer b (Err r) = record { code = number r; fixing = None; friday = 0; book = b }
+set_answer b (Ok b') = record { code = 0; fixing = None; friday = None; book = b' }
+set_answer b (Err r) = record { code = number r; fixing = None; friday = None; book = b }

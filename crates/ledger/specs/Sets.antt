@@ -37,4 +37,4 @@ set_refusal n b ts =
 unfoldable pub trade_set : ℕ → Book → List Trade → Answered
 trade_set n b ts =
     let number = set_refusal n b ts in
-    record { code = number; fixing = None; friday = 0; book = cond (eqb number 0) (set_effect n b ts) b }
+    record { code = number; fixing = None; friday = None; book = cond (eqb number 0) (set_effect n b ts) b }

@@ -9,12 +9,12 @@ use Rattle.outcomes.specs.Effects.{fixing_of, friday_of}
 use Rattle.columns.specs.Columns.{zero_columns}
 use Rattle.ledger.specs.{declared.Book.Book, Effects.effect, Refusals.refusal, Refusals.within_limits}
 
--- what a call is answered: the number of its refusal, 0 for none, what a fix found, the day of the month that a final date prints, 0 for none, and
--- the book after it
+-- what a call is answered: the number of its refusal, 0 for none, what a fix found, the day of the month that a final date prints, and the book
+-- after it
 pub record Answered : Type 0 where
   pub code : ℕ
   pub fixing : Option Fixing
-  pub friday : ℕ
+  pub friday : Option ℕ
   pub book : Book
 
 -- that of an outcome with the book after it
@@ -42,7 +42,7 @@ abbrev pub answer_by : ℕ → ℕ → Book → Call → Answered
 answer_by number n b c = record {
   code = number;
   fixing = cond (eqb number 0) (fixing_of b.figures c) None;
-  friday = cond (eqb number 0) (friday_of c) 0;
+  friday = cond (eqb number 0) (friday_of c) None;
   book = cond (eqb number 0) (effect n b c) b;
 }
 

@@ -56,5 +56,5 @@ unfoldable pub fixing_of : Figures → Call → Option Fixing
 fixing_of f c = on_fix (λ set. Some (ordinary_fixing f set)) (on_final_fix (λ v. Some (final_fixing f v)) None c) c
 
 -- 02-7: "prints `final` and the Friday's day", which only a final date does
-abbrev pub friday_of : Call → ℕ
-friday_of = on_final_date last_friday 0
+abbrev pub friday_of : Call → Option ℕ
+friday_of = on_final_date (λ m. Some (last_friday m)) None

@@ -33,7 +33,7 @@ abbrev pub outcome_by : ℕ → Figures → Call → Outcome
 outcome_by number f c = record {
   code = number;
   fixing = cond (eqb number 0) (fixing_of f c) None;
-  friday = cond (eqb number 0) (friday_of c) 0;
+  friday = cond (eqb number 0) (friday_of c) None;
   figures = cond (eqb number 0) (figures_after f c) f;
 }
 

@@ -19,15 +19,20 @@ abbrev pub printed_fix : Option Fixing → ℕ → Option Printed
 printed_fix None closed = None
 printed_fix (Some fixing) closed = Some (printed.Day (closed + 1) fixing)
 
+-- the day of the month that a final date found
+abbrev pub printed_final : Option ℕ → Option Printed
+printed_final None = None
+printed_final (Some friday) = Some (printed.Final friday)
+
 -- 01: "A fix prints the day counted from 1, P, clamped rate, amount and k. A close prints" the accounts; 02-7: a final date "prints `final` and the Friday's day".
 -- Other accepted calls print nothing.
-abbrev pub printed_when_accepted : Option Fixing → ℕ → ℕ → Call → Option Printed
+abbrev pub printed_when_accepted : Option Fixing → Option ℕ → ℕ → Call → Option Printed
 printed_when_accepted fixing friday closed c =
     on_fix (λ set. printed_fix fixing closed)
-    (on_final_fix (λ v. printed_fix fixing closed) (on_close (Some printed.Accounts) (on_final_date (λ m. Some (printed.Final friday)) None c) c) c) c
+    (on_final_fix (λ v. printed_fix fixing closed) (on_close (Some printed.Accounts) (on_final_date (λ m. printed_final friday) None c) c) c) c
 
 -- 01: "A refused record prints `refused`, its number, `record`, its place from 1 (unknown ones count)"
-abbrev pub printed_by : ℕ → Option Fixing → ℕ → ℕ → Call → ℕ → Option Printed
+abbrev pub printed_by : ℕ → Option Fixing → Option ℕ → ℕ → Call → ℕ → Option Printed
 printed_by number fixing friday closed c place = printed_number number place (printed_when_accepted fixing friday closed c)
 
 -- what a record prints, and the book after it

@@ -48,7 +48,7 @@ fn printed_by(outcome: Outcome, closed: u32, call: Call, place: u64) -> Option<P
                 fixing,
             }),
             Call::Close => Some(Printed::Accounts),
-            Call::FinalDate(_) => Some(Printed::Final(found.friday())),
+            Call::FinalDate(_) => found.friday().map(Printed::Final),
             _ => None,
         },
     }
