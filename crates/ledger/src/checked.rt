@@ -14,7 +14,7 @@ use refusals::Refusal;
 // Any call on a book within its limits. It is compiled by itself: a run calls it for rare records, and the loops over the frequent
 // ones have fewer numbers to keep without it.
 #[inline(never)]
-pub(crate) fn step(book: &mut Book, call: Call) -> Outcome
+pub fn step(book: &mut Book, call: Call) -> Outcome
     requires { WithinLimits accounts book.old }
     ensures { answer_of result book.new ≡ step accounts book.old call }
 {
