@@ -1,4 +1,4 @@
-// The run of a fresh book over a day file, reported to two lists, for programs in C.
+// The run of a fresh book over a day file, reported to two lists. Crate host_c hands it to C.
 #![tactic(auto)]
 
 ghost use Rattle.std.specs.Prelude.{◌≡◌, length};
@@ -8,10 +8,9 @@ use columns::ACCOUNTS;
 use ledger::checked::CheckedBook;
 
 // Runs a fresh book of this size over a file, reports it to both lists and answers how many records were accepted. Where the
-// size or a list is refused it answers 0, which document 01 asks for and C can take, and leaves both lists as they are. A list in C
-// is a pointer and a length in elements (include/funding.h), and so these are two.
-#[unsafe(no_mangle)]
-pub extern "C" fn funding_run(size: u8, file: &[u8], positions: &mut [i64], cash: &mut [i64]) -> u64
+// size or a list is refused it answers 0, which document 01 asks for and C can take, and leaves both lists as they are. They are two,
+// since in C each is a pointer and a length.
+pub fn funding_run(size: u8, file: &[u8], positions: &mut [i64], cash: &mut [i64]) -> u64
     ensures number { result
         ≡ accepted_records size file.now (length positions.old) (length cash.old) }
     ensures positions { positions.new

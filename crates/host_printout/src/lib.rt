@@ -1,5 +1,5 @@
-// The printout of an input, a part of it at a time, for programs in C. It is compiled apart from the run, of which the compiler then
-// makes one function.
+// The printout of an input, a part of it at a time, for programs in C. It is compiled apart from the run: what two exported functions
+// share, the compiler calls.
 #![tactic(auto)]
 
 ghost use Rattle.std.specs.Prelude.{◌≡◌, length, drop};
