@@ -2,7 +2,7 @@
 ghost use Rattle.std.specs.Prelude.{◌<◌};
 ghost use Rattle.columns.specs.Columns.{accounts};
 
-use crate::numbers::{Mistake, Numbers};
+use crate::numbers::Number;
 use calls::FULL_DAY;
 use columns::{ACCOUNTS, Columns};
 use day::{Day, Fixed, Markets, Minutes, Session, Timing, Trades};
@@ -42,34 +42,27 @@ impl Entry {
         }
     }
 
-    pub fn set(
-        self,
-        columns: &mut Columns,
-        account: usize,
-        numbers: &mut Numbers<'_>,
-    ) -> Result<(), Mistake> {
-        if account >= ACCOUNTS {
-            return Err(Mistake::NoSuchAccount);
-        }
+    pub fn set(self, columns: &mut Columns, account: usize, number: Number)
+        requires { account < accounts }
+    {
         match self {
-            Entry::Opening => numbers.set(&mut columns.opening[account]),
-            Entry::Position => numbers.set(&mut columns.position[account]),
-            Entry::Cost => numbers.set(&mut columns.cost[account]),
-            Entry::Volume => numbers.set(&mut columns.volume[account]),
-            Entry::Cash => numbers.set(&mut columns.cash[account]),
+            Entry::Opening => columns.opening[account] = number.as_i64(),
+            Entry::Position => columns.position[account] = number.as_i64(),
+            Entry::Cost => columns.cost[account] = number.as_i64(),
+            Entry::Volume => columns.volume[account] = number.as_u32(),
+            Entry::Cash => columns.cash[account] = number.as_i64(),
         }
     }
 
     // One number into the entries of all accounts.
-    pub fn set_all(self, columns: &mut Columns, numbers: &mut Numbers<'_>) -> Result<(), Mistake> {
+    pub fn set_all(self, columns: &mut Columns, number: Number) {
         match self {
-            Entry::Opening => columns.opening = [numbers.next()?; ACCOUNTS],
-            Entry::Position => columns.position = [numbers.next()?; ACCOUNTS],
-            Entry::Cost => columns.cost = [numbers.next()?; ACCOUNTS],
-            Entry::Volume => columns.volume = [numbers.next()?; ACCOUNTS],
-            Entry::Cash => columns.cash = [numbers.next()?; ACCOUNTS],
+            Entry::Opening => columns.opening = [number.as_i64(); ACCOUNTS],
+            Entry::Position => columns.position = [number.as_i64(); ACCOUNTS],
+            Entry::Cost => columns.cost = [number.as_i64(); ACCOUNTS],
+            Entry::Volume => columns.volume = [number.as_u32(); ACCOUNTS],
+            Entry::Cash => columns.cash = [number.as_i64(); ACCOUNTS],
         }
-        Ok(())
     }
 }
 

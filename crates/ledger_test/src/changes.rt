@@ -7,12 +7,11 @@ use crate::figure::{Figure, Value};
 use columns::{ACCOUNTS, Columns};
 use funding::market::Market;
 use ledger::Book;
-use std::alloc::{AllocError, Global};
 use std::{fmt, io};
 
 // A number that differs, by its name and its value in the second book.
 #[derive(Clone, Copy)]
-pub enum Change {
+enum Change {
     Figure(&'static str, Value),
     // the account of the entries that follow
     Account(usize),
@@ -34,45 +33,47 @@ impl fmt::Display for Change {
     }
 }
 
-fn push_account(
-    changes: &mut Vec<Change>,
+fn print_account(
+    rt: &impl Print,
     account: usize,
     before: &Columns,
     after: &Columns,
-) -> Result<(), AllocError>
+) -> io::Result<()>
     requires { account < accounts }
 {
-    let mut is_named = false;
+    if after.account(account) != before.account(account) {
+        rt.print(Change::Account(account))?;
+    }
     for (entry, name) in &Entry::NAMED {
         let value = entry.of(after, account);
         if value != entry.of(before, account) {
-            if !is_named {
-                changes.push(Change::Account(account))?;
-                is_named = true;
-            }
-            changes.push(Change::Entry(name, value))?;
+            rt.print(Change::Entry(name, value))?;
         }
     }
     Ok(())
 }
 
-pub fn between(alloc: Global, before: &Book, after: &Book) -> Result<Vec<Change>, AllocError> {
-    let mut changes = Vec::new(alloc);
+pub fn print(rt: &impl Print, before: &Book, after: &Book) -> io::Result<()> {
     for (figure, name) in &Figure::NAMED {
         let value = figure.of(&after.figures);
         if value != figure.of(&before.figures) {
-            changes.push(Change::Figure(name, value))?;
+            rt.print(Change::Figure(name, value))?;
         }
     }
     for account in 0..ACCOUNTS {
-        push_account(&mut changes, account, &before.columns, &after.columns)?;
-    }
-    Ok(changes)
-}
-
-pub fn print(rt: &impl Print, changes: &[Change]) -> io::Result<()> {
-    for change in changes {
-        rt.print(change)?;
+        print_account(rt, account, &before.columns, &after.columns)?;
     }
     Ok(())
+}
+
+// Whether two books are the same in all that is printed.
+pub fn is_same(before: &Book, after: &Book) -> bool {
+    let are_figures_same = Figure::NAMED.iter().all(|(figure, _)| figure.of(&before.figures)
+        == figure.of(&after.figures));
+    are_figures_same
+        && before.columns.opening == after.columns.opening
+        && before.columns.position == after.columns.position
+        && before.columns.cost == after.columns.cost
+        && before.columns.volume == after.columns.volume
+        && before.columns.cash == after.columns.cash
 }

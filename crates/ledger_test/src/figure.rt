@@ -1,5 +1,5 @@
 // The figures of a book, by their names.
-use crate::numbers::{Mistake, Numbers};
+use crate::numbers::Number;
 use figures::Figures;
 use funding::market::Market;
 
@@ -92,31 +92,31 @@ impl Figure {
         Value::Number(number)
     }
 
-    pub fn set(self, figures: &mut Figures, numbers: &mut Numbers<'_>) -> Result<(), Mistake> {
+    pub fn set(self, figures: &mut Figures, number: Number) {
         let day = &mut figures.day;
         match self {
-            Figure::Size => numbers.set(&mut figures.size),
-            Figure::Closed => numbers.set(&mut figures.closed),
-            Figure::Halted => numbers.set_flag(&mut figures.halted),
-            Figure::Expired => numbers.set_flag(&mut figures.expired),
-            Figure::PreviousPrice => numbers.set(&mut figures.previous.price),
-            Figure::PreviousIndex => numbers.set(&mut figures.previous.index),
-            Figure::Minutes => numbers.set(&mut day.minutes.ended),
-            Figure::Valid => numbers.set(&mut day.minutes.valid),
-            Figure::Weighted => numbers.set(&mut day.minutes.weighted),
-            Figure::Market => numbers.set_market(&mut day.markets.standing),
-            Figure::MinuteMarket => numbers.set_market(&mut day.markets.minute),
-            Figure::Last => numbers.set(&mut day.trades.last),
-            Figure::Contracts => numbers.set(&mut day.trades.settling.contracts),
-            Figure::Gross => numbers.set(&mut day.trades.settling.gross),
-            Figure::Index => numbers.set(&mut day.minutes.index),
-            Figure::FixedPrice => numbers.set(&mut day.fixed.price),
-            Figure::FixedAmount => numbers.set(&mut day.fixed.amount),
-            Figure::Length => numbers.set(&mut day.session.length),
-            Figure::Begun => numbers.set_flag(&mut day.session.begun),
-            Figure::LatestTime => numbers.set(&mut day.timing.latest),
-            Figure::Total => numbers.set(&mut day.timing.midpoints.total),
-            Figure::Sum => numbers.set(&mut day.timing.midpoints.sum),
+            Figure::Size => figures.size = number.as_u32(),
+            Figure::Closed => figures.closed = number.as_u32(),
+            Figure::Halted => figures.halted = number.as_flag(),
+            Figure::Expired => figures.expired = number.as_flag(),
+            Figure::PreviousPrice => figures.previous.price = number.as_u32(),
+            Figure::PreviousIndex => figures.previous.index = number.as_u32(),
+            Figure::Minutes => day.minutes.ended = number.as_u32(),
+            Figure::Valid => day.minutes.valid = number.as_u32(),
+            Figure::Weighted => day.minutes.weighted = number.as_i64(),
+            Figure::Market => day.markets.standing = number.as_market(),
+            Figure::MinuteMarket => day.markets.minute = number.as_market(),
+            Figure::Last => day.trades.last = number.as_u32(),
+            Figure::Contracts => day.trades.settling.contracts = number.as_u32(),
+            Figure::Gross => day.trades.settling.gross = number.as_u64(),
+            Figure::Index => day.minutes.index = number.as_u32(),
+            Figure::FixedPrice => day.fixed.price = number.as_u32(),
+            Figure::FixedAmount => day.fixed.amount = number.as_i64(),
+            Figure::Length => day.session.length = number.as_u32(),
+            Figure::Begun => day.session.begun = number.as_flag(),
+            Figure::LatestTime => day.timing.latest = number.as_u32(),
+            Figure::Total => day.timing.midpoints.total = number.as_u32(),
+            Figure::Sum => day.timing.midpoints.sum = number.as_u64(),
         }
     }
 }

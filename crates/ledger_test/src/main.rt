@@ -13,14 +13,25 @@ mod player;
 mod reports;
 mod trades;
 
+use input_buffer::read_full;
 use player::Player;
 use std::io;
 
+// The bytes of the cases that are read.
+const MOST_INPUT: usize = 131_072;
+
+// A last line without its end is no case.
 fn main(rt: HostRuntime) -> io::Result<()> {
-    let cases = io::read_to_string(rt.alloc(), rt.stdin())?;
+    let mut input = [0; MOST_INPUT];
+    let length = read_full(&mut rt.stdin(), &mut input)?;
     let mut player = Player::new();
-    for line in cases.lines() {
-        player.line(&rt, line)?;
+    for line in input[..length].split_inclusive(|byte| *byte == b'\n') {
+        if let Some(line) = line.strip_suffix(b"\n") {
+            player.line(&rt, line)?;
+        }
+    }
+    if length == MOST_INPUT {
+        rt.println("the cases are cut off")?;
     }
     Ok(())
 }

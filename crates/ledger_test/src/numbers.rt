@@ -1,86 +1,125 @@
-// The numbers of a text and the name before them.
+// The numbers of a text and the name before them. Each number is 64 bits: a negative one is what 2^64 leaves of its size, and a
+// market, as 200100/200300, is its bid times 2^32 and its offer.
 use funding::market::Market;
-use std::fmt;
-use std::str::Split;
 
-// Why a list of fields or a call can't be read.
+// 2^32
+const HALF: u64 = 4_294_967_296;
+// How many numbers of a text count: the cases have lists of six fields without a number.
+const MOST: usize = 6;
+
+// A number, of which each field and call takes as much as it holds.
 #[derive(Clone, Copy)]
-pub enum Mistake {
-    NoSuchField,
-    // an entry of no account
-    NoAccount,
-    // an entry of an account past the last one
-    NoSuchAccount,
-    // none is left, or it is outside its field's type
-    NoNumber,
-}
+pub struct Number(u64);
 
-impl fmt::Display for Mistake {
-    fn fmt<W: fmt::Write>(&self, f: &mut fmt::Formatter<W>) -> fmt::Result {
-        f.write_str(match self {
-            Mistake::NoSuchField => "NO SUCH FIELD: ",
-            Mistake::NoAccount => "NO ACCOUNT: ",
-            Mistake::NoSuchAccount => "NO SUCH ACCOUNT: ",
-            Mistake::NoNumber => "NO NUMBER: ",
-        })
+impl Number {
+    pub fn as_u8(self) -> u8 {
+        (self.0 % 256) as u8
+    }
+
+    pub fn as_u16(self) -> u16 {
+        (self.0 % 65_536) as u16
+    }
+
+    pub fn as_u32(self) -> u32 {
+        (self.0 % HALF) as u32
+    }
+
+    pub fn as_u64(self) -> u64 {
+        self.0
+    }
+
+    pub fn as_i64(self) -> i64 {
+        self.0.cast_signed()
+    }
+
+    pub fn as_flag(self) -> bool {
+        self.as_u32() != 0
+    }
+
+    pub fn as_market(self) -> Market {
+        Market {
+            bid: (self.0 / HALF) as u32,
+            offer: self.as_u32(),
+        }
     }
 }
 
-// The numbers of a text that are left. A market, as 200100/200300, is two of them.
-#[derive(Drop)]
-pub struct Numbers<'a> {
-    words: Split<'a, [char; 4]>,
+// The first numbers of a text.
+#[derive(Clone, Copy)]
+pub struct Numbers {
+    list: [u64; MOST],
+    count: usize,
 }
 
-impl<'a> Numbers<'a> {
-    pub fn of(text: &'a str) -> Self {
-        Self {
-            words: text.split([' ', ',', ':', '/']),
+fn is_of_number(byte: u8) -> bool {
+    matches!(byte, b'0'..=b'9' | b'/' | b'-')
+}
+
+// What digits, slashes and minus signs come to, wherever they stand. The remainder keeps the product with 10 within 64 bits.
+fn value_of(word: &[u8]) -> u64 {
+    let mut bid: u64 = 0;
+    let mut digits: u64 = 0;
+    let mut is_negative = false;
+    for &byte in word {
+        match byte {
+            b'0'..=b'9' => {
+                let digit = u64::from(byte - b'0');
+                digits = (digits % 1_844_674_407_370_955_162 * 10).wrapping_add(digit);
+            }
+            b'/' => {
+                bid = digits % HALF * HALF;
+                digits = 0;
+            }
+            _ => is_negative = true,
+        }
+    }
+    let value = bid.wrapping_add(digits);
+    if is_negative {
+        value.wrapping_neg()
+    } else {
+        value
+    }
+}
+
+impl Numbers {
+    pub fn of(text: &[u8]) -> Self {
+        let mut numbers = Self {
+            list: [0; MOST],
+            count: 0,
+        };
+        for word in text.split(|byte| !is_of_number(*byte)) {
+            if word.iter().any(u8::is_ascii_digit) {
+                numbers.push(value_of(word));
+            }
+        }
+        numbers
+    }
+
+    fn push(&mut self, value: u64) {
+        if self.count < MOST {
+            self.list[self.count] = value;
+            self.count += 1;
         }
     }
 
-    pub fn next<T: TryFrom<i128>>(&mut self) -> Result<T, Mistake>
-    where
-        T::Error: Drop,
-    {
-        let number: i128 = self
-            .words
-            .find_map(|word| word.parse().ok())
-            .ok_or(Mistake::NoNumber)?;
-        T::try_from(number).ok().ok_or(Mistake::NoNumber)
+    pub fn count(&self) -> usize {
+        self.count
     }
 
-    pub fn market(&mut self) -> Result<Market, Mistake> {
-        Ok(Market {
-            bid: self.next()?,
-            offer: self.next()?,
-        })
-    }
-
-    // The next number into a field.
-    pub fn set<T: TryFrom<i128> + Drop>(&mut self, field: &mut T) -> Result<(), Mistake>
-    where
-        T::Error: Drop,
-    {
-        *field = self.next()?;
-        Ok(())
-    }
-
-    pub fn set_flag(&mut self, field: &mut bool) -> Result<(), Mistake> {
-        *field = self.next::<u32>()? != 0;
-        Ok(())
-    }
-
-    pub fn set_market(&mut self, field: &mut Market) -> Result<(), Mistake> {
-        *field = self.market()?;
-        Ok(())
+    // The number at a place, 0 where the text has none.
+    pub fn at(&self, place: usize) -> Number {
+        Number(self.list.get(place).copied().unwrap_or(0))
     }
 }
 
-// What stands before the first number of a text.
-pub fn name_of(text: &str) -> &str {
-    match text.split_once(|c: char| c.is_ascii_digit() || c == '-') {
-        Some((name, _)) => name.trim_end(),
-        None => text,
+// What stands before the first number of a text, without the byte between.
+pub fn name_of(text: &[u8]) -> &[u8] {
+    let Some(digit) = text.iter().position(u8::is_ascii_digit) else {
+        return text;
+    };
+    let before = &text[..digit];
+    match before.iter().rposition(|byte| !is_of_number(*byte)) {
+        Some(end) => &before[..end],
+        None => b"",
     }
 }
