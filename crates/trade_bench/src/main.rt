@@ -5,7 +5,6 @@
 use calls::{Kind, MOST_TRADES, Trade};
 use figures::product::Product;
 use ledger::Book;
-use std::io::ErrorKind;
 use std::{array, env, io};
 
 const TRADES: u64 = 1_000_000;
@@ -53,11 +52,16 @@ fn play_sets(mut book: Book) -> u64 {
     accepted * SET
 }
 
+// Any other argument, or one that can't be read, is as none.
 fn main(rt: HostRuntime) -> io::Result<()> {
-    let accepted = match env::args(&rt)?.nth(1) {
-        None => play(fresh()),
-        Some(word) if word.as_str() == "sets" => play_sets(fresh()),
-        Some(_) => return Err(ErrorKind::InvalidInput.into()),
+    let are_sets = match env::args(&rt) {
+        Ok(mut words) => words.nth(1).is_some_and(|word| word.as_str() == "sets"),
+        Err(_) => false,
+    };
+    let accepted = if are_sets {
+        play_sets(fresh())
+    } else {
+        play(fresh())
     };
     println!(rt; "{accepted}")
 }
