@@ -18,7 +18,9 @@ pub struct Window<'a> {
     pub at: usize,
 }
 
-// Copies as much of a text as fits over the front of a buffer, which is lent, since no heap is used.
+// Copies as much of a text as fits over the front of a buffer, which is lent, since no heap is used. It is compiled by itself: where it
+// was put in place, the compiler couldn't tell that the two lie apart and called `memmove`, which a program in C need not have.
+#[inline(never)]
 fn copy_over(text: &[u8], out: &mut [u8])
     ensures { out.new ≡ over text.now out.old }
 {
