@@ -1,5 +1,6 @@
 pub mod Laws
 pub mod Sizes
+pub mod Order
 pub mod Ring
 pub mod Overflow
 pub mod Dividing
