@@ -35,7 +35,7 @@ use Rattle.printout.specs.Printout.{Lines, text_of, before, after_records, lines
 abbrev pub longest_text : ℕ
 longest_text = accounts * longest_account
 
-text_short : (p : Option Printed) (c : Columns) → length (text_of p c) ≤ longest_text
+pub text_short : (p : Option Printed) (c : Columns) → length (text_of p c) ≤ longest_text
 text_short None c = omega arith
 text_short (Some (printed.Refused number place)) c = omega (arith, refused_short number place)
 text_short (Some (printed.Day day fixing)) c = omega (arith, day_short day fixing)
