@@ -6,15 +6,16 @@
 --     placed_over                   what was put from the text's start on is the part of it that the buffer lies over
 --     placed_part                   what is put from a place on, by what stands before that place and what follows it
 --     over_front                    as much of a text as fits, by its length
+--     front_next                    and one byte more of it
 -- Assumes nothing.
 use mathlib.Core.Path.{◌≡◌, refl, sym, ◌∙◌, ap, subst}
 use mathlib.Core.Logic.{inl, inr}
 use mathlib.Core.List.{List, [], ◌∷◌, ◌++◌}
 use mathlib.Core.Bool.{Bool, true, false, cond}
-use Prim.Native.Nat.{ℕ, zero, suc, ◌+◌, ◌-◌, min}
+use Prim.Native.Nat.{ℕ, zero, suc, ◌+◌, ◌-◌, ◌<◌, min}
 use native.Mathlib.Omega.{arith}
 use lib.Dec.{leb}
-use lib.ListN.{length, set, take, drop, length-set, length-append}
+use lib.ListN.{length, set, take, drop, get_or, length-set, length-append}
 use Rattle.std.proofs.lemmas.List.{take_min, drop_min}
 use Rattle.std.proofs.lemmas.Bool.{cases_lt}
 use Rattle.integers.proofs.Tests.{tests}
@@ -145,3 +146,10 @@ over_front n [] out e = let none : n ≡ 0 = omega arith in rw none refl
 over_front n (b ∷ text) [] e = let none : n ≡ 0 = omega arith in rw none refl
 over_front zero (b ∷ text) (o ∷ out) e = absurd (omega arith)
 over_front (suc n) (b ∷ text) (o ∷ out) e = ap (λ (l : List ℕ). b ∷ l) (over_front n text out (omega arith))
+
+-- one byte more of the text in place of the buffer's
+pub front_next : (i : ℕ) (text out : List ℕ) → i < length text → i < length out → set (take i text ++ drop i out) i (get_or text i 0) ≡ take (suc i) text ++ drop (suc i) out
+front_next i [] out h k = absurd (omega (arith, h))
+front_next i (b ∷ text) [] h k = absurd (omega (arith, k))
+front_next zero (b ∷ text) (o ∷ out) h k = refl
+front_next (suc i) (b ∷ text) (o ∷ out) h k = ap (λ (l : List ℕ). b ∷ l) (front_next i text out (omega (arith, h)) (omega (arith, k)))
